@@ -1,0 +1,16 @@
+pub mod Chains
+pub mod Answers
+pub mod Runs
+pub mod Notes
+pub mod OnePlain
+pub mod Walk
+pub mod Kept
+pub mod Pigeon
+pub mod OneBounded
+pub mod Sound
+pub mod Complete
+pub mod Conserve
+pub mod Effort
+pub mod Spans
+pub mod Answered
+pub mod Free

@@ -1,0 +1,5 @@
+pub mod Grammar
+pub mod Rules
+pub mod Report
+pub mod Decide
+pub mod Reading

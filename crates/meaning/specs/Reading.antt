@@ -1,0 +1,141 @@
+-- 01, "How a line is read": the limited reading, visit by visit.
+use Prim.Native.Nat.{ℕ, zero, suc}
+use mathlib.Core.Bool.{Bool, true, false}
+use mathlib.Core.List.{List, []}
+use mathlib.Core.Option.{Option, none, some}
+use lib.Dec.{ltb, eqb}
+use Rattle.meaning.specs.Grammar.{Node, empty, range, rule, seq, choice, not, rep, Grammar, node, rootOf, Trees, no-trees, _⋈_, Answer, fail, ok, wrap, fits, Note, noted, look}
+use Rattle.meaning.specs.Decide.{isFree}
+
+-- What a visit hands on: the visits left of the allowance, and the kept answers of (node, position).
+pub record State : Type 0 where
+  pub left : ℕ
+  pub kept : List Note
+
+-- How a visit ends: refused for effort or depth, with "position of the refused visit"; or done with its answer.
+pub data Run : Type 0 where
+  effort : ℕ → State → Run
+  deep : ℕ → State → Run
+  done : Answer → State → Run
+
+-- A visit of a node at a position.
+abbrev pub Visit : Type 0
+Visit = ℕ → ℕ → State → Run
+
+-- A refusal refuses all that is open.
+unfoldable pub after : Run → (Answer → State → Run) → Run
+after (effort p s) k = effort p s
+after (deep p s) k = deep p s
+after (done r s) k = k r s
+
+-- 01: "one byte in range, else fails".
+unfoldable pub byte : ℕ → Bool → Answer
+byte x true = ok (suc x) no-trees
+byte x false = fail
+
+-- 01: "trees joined. Fails when either fails."
+unfoldable pub joined : Trees → Answer → State → Run
+joined ts fail s = done fail s
+joined ts (ok e us) s = done (ok e (ts ⋈ us)) s
+
+-- 01: "first child, then second at the first's end".
+unfoldable pub second : Visit → ℕ → Answer → State → Run
+second v b fail s = done fail s
+second v b (ok e ts) s = after (v b e s) (joined ts)
+
+-- 01: "first child; the second only if the first fails, at the same position".
+unfoldable pub otherwise : Visit → ℕ → ℕ → Answer → State → Run
+otherwise v b x fail s = v b x s
+otherwise v b x (ok e ts) s = done (ok e ts) s
+
+-- 01: "fails if its child matches; else matches nothing, with no trees".
+unfoldable pub denied : ℕ → Answer → State → Run
+denied x fail s = done (ok x no-trees) s
+denied x (ok e ts) s = done fail s
+
+-- 01: "If that fails or matches nothing, it matches nothing, with no trees. Else it visits itself at the child's end; trees joined."
+unfoldable pub repeatFrom : Visit → ℕ → ℕ → ℕ → Trees → State → Bool → Run
+repeatFrom v i x e ts s true = done (ok x no-trees) s
+repeatFrom v i x e ts s false = after (v i e s) (joined ts)
+
+unfoldable pub repeated : Visit → ℕ → ℕ → Answer → State → Run
+repeated v i x fail s = done (ok x no-trees) s
+repeated v i x (ok e ts) s = repeatFrom v i x e ts s (eqb x e)
+
+-- 01: "A successful rule use is one tree".
+unfoldable pub wrapped : ℕ → ℕ → Answer → State → Run
+wrapped a x r s = done (wrap a x r) s
+
+-- One node's application at x: v visits its children and, for a repetition, node i itself; u uses a rule.
+unfoldable pub apply : List ℕ → Visit → Visit → ℕ → ℕ → State → Node → Run
+apply line v u i x s empty = done (ok x no-trees) s
+apply line v u i x s (range lo hi) = done (byte x (fits line lo hi x)) s
+apply line v u i x s (rule a) = u a x s
+apply line v u i x s (seq a b) = after (v a x s) (second v b)
+apply line v u i x s (choice a b) = after (v a x s) (otherwise v b x)
+apply line v u i x s (not a) = after (v a x s) (denied x)
+apply line v u i x s (rep a) = after (v a x s) (repeated v i x)
+
+-- 01: "as long as each attempt is strictly longer than what is held"; k grows on from a longer one.
+unfoldable pub longer : (ℕ → Trees → State → Run) → ℕ → Trees → ℕ → Trees → State → Bool → Run
+longer k e ts e′ ts′ s true = k e′ ts′ s
+longer k e ts e′ ts′ s false = done (ok e ts) s
+
+-- 01: "Growing stops at the first attempt that fails or isn't longer; what was held is the answer".
+unfoldable pub attempted : (ℕ → Trees → State → Run) → ℕ → Trees → Answer → State → Run
+attempted k e ts fail s = done (ok e ts) s
+attempted k e ts (ok e′ ts′) s = longer k e ts e′ ts′ s (ltb e e′)
+
+-- 01: "the match is held and the root visited again": v visits it with an answer held. The first number bounds the attempts: each makes a visit,
+-- so as many as there are visits left are enough, and there is no visit left where they are used up.
+unfoldable pub grow : ℕ → (Answer → State → Run) → ℕ → ℕ → Trees → State → Run
+grow zero v x e ts s = effort x s
+grow (suc f) v x e ts s = after (v (ok e ts) s) (attempted (grow f v x) e ts)
+
+-- 01: "If that fails, the use fails, after one attempt."
+unfoldable pub firstAttempt : (Answer → State → Run) → ℕ → ℕ → Answer → State → Run
+firstAttempt v a x fail s = done fail s
+firstAttempt v a x (ok e ts) s = after (grow (s .left) v x e ts s) (wrapped a x)
+
+-- 01: "A use of rule A at position x that isn't live becomes live with failure held"; "A visit of a live pair gives what is held".
+unfoldable pub useLive : (Answer → State → Run) → ℕ → ℕ → State → Option Answer → Run
+useLive v a x s none = after (v fail s) (firstAttempt v a x)
+useLive v a x s (some r) = done (wrap a x r) s
+
+-- 01: "Each finished pair (node, position) is kept".
+unfoldable pub keep : ℕ → ℕ → Answer → State → Run
+keep i x r s = done r (record { left = s .left; kept = noted i x r (s .kept) })
+
+-- 01: "Before each visit: if the visits made already equal the allowance, EFFORT". The first number is the visits left; k makes the visit.
+unfoldable pub counted : ℕ → ℕ → State → (State → Run) → Run
+counted zero x s k = effort x s
+counted (suc l) x s k = k (record { left = l; kept = s .kept })
+
+module _ (g : Grammar) (line : List ℕ) where
+  -- A use of a rule, in a grammar that is free or not; v visits, given the live uses.
+  unfoldable pub useRule : Bool → (List Note → Visit) → List Note → Visit
+  useRule true v l a x s = after (v l (rootOf g a) x s) (wrapped a x)
+  useRule false v l a x s = useLive (λ r. v (noted a x r l) (rootOf g a) x) a x s (look l a x)
+
+  -- 01: "a later visit of that pair counts as one visit, works nothing and gives the kept answer".
+  unfoldable pub recall : (List Note → Visit) → List Note → ℕ → ℕ → State → Option Answer → Run
+  recall v l i x s (some r) = done r s
+  recall v l i x s none = after (apply line (v l) (useRule true v l) i x s (node g i)) (keep i x)
+
+  -- A visit that may be made, in a grammar that is free or not. 01: "All others. Nothing is kept but this."
+  unfoldable pub visited : Bool → (List Note → Visit) → List Note → Visit
+  visited true v l i x s = recall v l i x s (look (s .kept) i x)
+  visited false v l i x s = apply line (v l) (useRule false v l) i x s (node g i)
+
+  -- 01: "else if 512 visits are open, DEEP". The number is how many more visits may be open.
+  unfoldable pub visit : Bool → ℕ → List Note → Visit
+  visit free zero l i x s = counted (s .left) x s (λ t. deep x s)
+  visit free (suc d) l i x s = counted (s .left) x s (visited free (visit free d) l i x)
+
+  -- 01: "The reading is a use of rule 0 at position 0; that use is not itself a visit."
+  unfoldable pub readBy : Bool → ℕ → Run
+  readBy free allowance = useRule free (visit free 512) [] 0 0 (record { left = allowance; kept = [] })
+
+  -- 01: "Free grammars." and "All others."
+  unfoldable pub read : ℕ → Run
+  read allowance = readBy (isFree g) allowance

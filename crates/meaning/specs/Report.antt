@@ -1,0 +1,39 @@
+-- 01, "The report": which nodes may be empty, what a node starts with, and which grammars are free.
+use Prim.Native.Nat.{ℕ, _<_}
+use lib.ListN.{length}
+use Rattle.meaning.specs.Grammar.{Node, empty, range, rule, seq, choice, not, rep, Grammar, node, root}
+
+-- 01: "may be empty (least reading): empty, not and repetition yes; range no; rule as its root; sequence if both are; choice if either is".
+pub data MayBeEmpty (g : Grammar) : Node → Type 0 where
+  of-empty : MayBeEmpty g empty
+  of-not : {a : ℕ} → MayBeEmpty g (not a)
+  of-rep : {a : ℕ} → MayBeEmpty g (rep a)
+  of-rule : {a : ℕ} → MayBeEmpty g (root g a) → MayBeEmpty g (rule a)
+  of-seq : {a b : ℕ} → MayBeEmpty g (node g a) → MayBeEmpty g (node g b) → MayBeEmpty g (seq a b)
+  of-first : {a b : ℕ} → MayBeEmpty g (node g a) → MayBeEmpty g (choice a b)
+  of-second : {a b : ℕ} → MayBeEmpty g (node g b) → MayBeEmpty g (choice a b)
+
+-- 01: "starts with its child (not, repetition), both children (choice), its first child, and also its second if the first may be empty (sequence)".
+pub data Starts (g : Grammar) : Node → Node → Type 0 where
+  by-not : {a : ℕ} → Starts g (not a) (node g a)
+  by-rep : {a : ℕ} → Starts g (rep a) (node g a)
+  by-choice : {a b : ℕ} → Starts g (choice a b) (node g a)
+  by-other : {a b : ℕ} → Starts g (choice a b) (node g b)
+  by-first : {a b : ℕ} → Starts g (seq a b) (node g a)
+  by-second : {a b : ℕ} → MayBeEmpty g (node g a) → Starts g (seq a b) (node g b)
+  by-rule : {a : ℕ} → Starts g (rule a) (root g a)
+
+-- A chain of none or more such steps.
+pub data Leads (g : Grammar) : Node → Node → Type 0 where
+  here : {p : Node} → Leads g p p
+  on : {p q r : Node} → Leads g p q → Starts g q r → Leads g p r
+
+-- 01: "exactly if a chain of one or more such steps leads from its root to a use of the same rule".
+pub record LeftRecursive (g : Grammar) (a : ℕ) : Type 0 where
+  pub before : Node
+  pub chain : Leads g (root g a) before
+  pub last : Starts g before (rule a)
+
+-- 01: "A grammar is free if no rule in its table is left-recursive."
+pub record Free (g : Grammar) : Type 0 where
+  pub none : (a : ℕ) → a < length (g .roots) → LeftRecursive g a → ⊥
