@@ -1,0 +1,177 @@
+//! Lines that open 511, 512 and 513 visits, and sheets of full size.
+
+use crate::maker::Maker;
+use crate::sheet::Sheet;
+use crate::soup;
+
+pub fn add(maker: &mut Maker) {
+    right_recursion(maker);
+    chains_of_nodes(maker);
+    many_live_uses(maker);
+    full_size(maker);
+}
+
+/// `child` under so many sequences with an empty first: each opens one visit.
+fn padded(sheet: &mut Sheet, child: u16, pads: usize) -> u16 {
+    let nothing = sheet.empty();
+    (0..pads).fold(child, |inner, _| sheet.sequence(nothing, inner))
+}
+
+/// S <- pads T; T <- 'a' T / empty. Three visits deeper with each byte, so
+/// three pads reach every depth.
+fn right_recursive(pads: usize, not_free: bool) -> Sheet {
+    let mut sheet = Sheet::new();
+    let t = sheet.rule(1);
+    let root = padded(&mut sheet, t, pads);
+    let a = sheet.byte(b'a');
+    let longer = sheet.sequence(a, t);
+    let nothing = sheet.empty();
+    let t_root = sheet.choice(longer, nothing);
+    sheet.root(root);
+    sheet.root(t_root);
+    if not_free {
+        let itself = sheet.rule(2);
+        sheet.root(itself);
+    }
+    sheet
+}
+
+fn right_recursion(maker: &mut Maker) {
+    for pads in 0..7 {
+        maker.table(&right_recursive(pads, false).table());
+        for length in 166..=171 {
+            maker.line(&vec![b'a'; length]);
+            let whole = maker.random.chance(50);
+            let allowance = maker.affordable(1_000);
+            around_a_refusal(maker, whole, allowance);
+        }
+    }
+    for pads in 0..4 {
+        maker.table(&right_recursive(pads, true).table());
+        for length in [165, 168, 169, 170, 171, 255] {
+            maker.line(&vec![b'a'; length]);
+            let allowance = maker.affordable(1_000);
+            around_a_refusal(maker, true, allowance);
+        }
+    }
+}
+
+/// The reading itself, then the allowance just spent when the deep visit is
+/// refused (effort is named first) and one more.
+fn around_a_refusal(maker: &mut Maker, whole: bool, allowance: u64) {
+    maker.read_with_enough(whole, allowance, 1_000);
+    let trial = maker.trial(whole, allowance);
+    if trial.code == independent::DEEP {
+        maker.read_with_enough(whole, trial.visits, 40);
+        maker.read_with_enough(whole, trial.visits + 1, 40);
+    }
+}
+
+/// Sheets of up to 512 nodes in one chain: of nots down to a range, or of
+/// pads over a repetition, which opens one visit more with each byte.
+fn chains_of_nodes(maker: &mut Maker) {
+    for nodes in [510, 511, 512] {
+        let mut sheet = Sheet::new();
+        let mut top = sheet.byte(b'a');
+        while sheet.nodes.len() < nodes {
+            top = sheet.not(top);
+        }
+        sheet.root(top);
+        maker.table(&sheet.table());
+        for line in [b"".as_slice(), b"a"] {
+            maker.line(line);
+            for allowance in [510, 511, 512, 513] {
+                maker.read_with_enough(false, allowance, 40);
+            }
+        }
+    }
+    for not_free in [false, true] {
+        let mut sheet = Sheet::new();
+        let a = sheet.byte(b'a');
+        let all = sheet.repetition(a);
+        let top = padded(&mut sheet, all, 500);
+        sheet.root(top);
+        if not_free {
+            let itself = sheet.rule(1);
+            sheet.root(itself);
+        }
+        maker.table(&sheet.table());
+        for length in 8..=14 {
+            maker.line(&vec![b'a'; length]);
+            maker.read_with_enough(true, 1_100, 40);
+            maker.read_with_enough(false, 600, 40);
+        }
+    }
+}
+
+/// A long chain of rules at every position, none of which is ever done: as
+/// many uses are live as visits can be open.
+fn many_live_uses(maker: &mut Maker) {
+    for rules in [2, 3, 8, 62, 63, 64] {
+        let mut sheet = Sheet::new();
+        let a = sheet.byte(b'a');
+        let uses: Vec<u16> = (0..rules).map(|rule| sheet.rule(rule)).collect();
+        for &next in &uses[1..] {
+            sheet.root(next);
+        }
+        // The last rule starts with itself, then goes on to rule 0.
+        let grown = sheet.sequence(uses[usize::from(rules) - 1], a);
+        let on = sheet.sequence(a, uses[0]);
+        let last = sheet.first_of(&[grown, on, a]);
+        sheet.root(last);
+        maker.table(&sheet.table());
+        maker.report();
+        for length in [0, 1, 2, 5, 8, 100] {
+            maker.line(&vec![b'a'; length]);
+            let allowance = maker.affordable(1_500);
+            around_a_refusal(maker, length % 2 == 0, allowance);
+        }
+    }
+}
+
+/// 512 nodes and 64 rules.
+fn full_size(maker: &mut Maker) {
+    for _ in 0..24 {
+        let sheet = soup::soup(maker, 512, 64);
+        maker.table(&sheet.table());
+        maker.check();
+        maker.report();
+        for _ in 0..4 {
+            let length = maker.random.below(9);
+            let line = soup::random_line(maker, b"ab", length);
+            maker.line(&line);
+            let whole = maker.random.chance(50);
+            let allowance = maker.affordable(700);
+            maker.read_with_enough(whole, allowance, 300);
+            around_a_refusal(maker, whole, allowance);
+        }
+        // Too long a line for what can be lent.
+        maker.line(&[b'a'; 255]);
+        maker.read(false, 100, 9_000, 100);
+    }
+}
+
+#[cfg(test)]
+mod tests {
+    use super::*;
+
+    fn code(sheet: &Sheet, length: usize) -> u64 {
+        let mut work = vec![0; 20_000];
+        let mut room = vec![0; 5_005];
+        let line = vec![b'a'; length];
+        independent::read(&sheet.table(), &line, 1_500, &mut work, &mut room, true).code
+    }
+
+    /// T at position p is open as number pads + 3p + 1, and under it come a
+    /// choice, a sequence and a range.
+    #[test]
+    fn the_pads_reach_512_and_513() {
+        for pads in 0..7 {
+            for length in 166..=171 {
+                let deepest = pads + 3 * length + 4;
+                let expected = if deepest <= 512 { 0 } else { 12 };
+                assert_eq!(code(&right_recursive(pads, false), length), expected);
+            }
+        }
+    }
+}

@@ -1,0 +1,148 @@
+//! Answering commands with a given set of reader functions.
+
+use crate::command::{decode, Command, Lending};
+
+/// A reading: table, line, allowance, working numbers, room, whole; gives
+/// code, place, matched, visits, records.
+pub type Read = fn(&[u8], &[u8], u64, &mut [u32], &mut [u8], bool) -> [u64; 5];
+
+/// The functions under comparison.
+#[derive(Clone, Copy)]
+pub struct Readers {
+    /// Code and place.
+    pub check: fn(&[u8]) -> (u64, u64),
+    /// Code, place, may be empty, left-recursive, how many, lowest.
+    pub report: fn(&[u8]) -> [u64; 6],
+    pub read: Read,
+    /// Stored bytes, rules, line length.
+    pub well_formed: fn(&[u8], u64, u64) -> bool,
+}
+
+impl Readers {
+    /// The independent reader's functions.
+    pub fn independent() -> Readers {
+        Readers {
+            check: independent::check,
+            report: |table| {
+                let report = independent::report(table);
+                [
+                    report.code,
+                    report.place,
+                    report.may_be_empty,
+                    report.left_recursive,
+                    report.how_many,
+                    report.lowest,
+                ]
+            },
+            read: |table, line, allowance, work, room, whole| {
+                let answer = independent::read(table, line, allowance, work, room, whole);
+                [
+                    answer.code,
+                    answer.place,
+                    answer.matched,
+                    answer.visits,
+                    answer.records,
+                ]
+            },
+            well_formed: independent::well_formed,
+        }
+    }
+}
+
+/// The current table and line, and the functions that answer.
+pub struct Desk {
+    readers: Readers,
+    table: Vec<u8>,
+    line: Vec<u8>,
+}
+
+impl Desk {
+    pub fn new(readers: Readers) -> Desk {
+        Desk {
+            readers,
+            table: Vec::new(),
+            line: Vec::new(),
+        }
+    }
+
+    pub fn table(&self) -> &[u8] {
+        &self.table
+    }
+
+    pub fn line(&self) -> &[u8] {
+        &self.line
+    }
+
+    /// The numbers the command prints; none if it only sets something.
+    pub fn answer(&mut self, command: &Command) -> Option<Vec<u64>> {
+        match command {
+            Command::Table(table) => {
+                self.table.clone_from(table);
+                None
+            }
+            Command::Line(line) => {
+                self.line.clone_from(line);
+                None
+            }
+            Command::Check => {
+                let (code, place) = (self.readers.check)(&self.table);
+                Some(vec![code, place])
+            }
+            Command::Report => Some((self.readers.report)(&self.table).to_vec()),
+            Command::Read(lending) => Some(self.read(lending)),
+            Command::WellFormed {
+                rules,
+                line_length,
+                stored,
+            } => {
+                let is = (self.readers.well_formed)(stored, (*rules).into(), (*line_length).into());
+                Some(vec![is.into()])
+            }
+        }
+    }
+
+    fn read(&self, lending: &Lending) -> Vec<u64> {
+        let fill = u64::from(lending.fill);
+        let mut work: Vec<u32> = (0..u64::from(lending.work))
+            .map(|i| ((fill * 257 + i * 31 + 1) % 65_537) as u32)
+            .collect();
+        let mut room: Vec<u8> = (0..u64::from(lending.room))
+            .map(|i| ((fill + i * 7) % 256) as u8)
+            .collect();
+        let answer = (self.readers.read)(
+            &self.table,
+            &self.line,
+            lending.allowance,
+            &mut work,
+            &mut room,
+            lending.whole,
+        );
+        let mut numbers = answer.to_vec();
+        numbers.push(digest(room.iter().map(|&byte| byte.into())));
+        numbers.push(digest(work.iter().map(|&number| number.into())));
+        numbers
+    }
+}
+
+fn digest(elements: impl Iterator<Item = u64>) -> u64 {
+    elements.fold(7, |h, v| (h * 65_599 + v + 1) % 4_294_967_291)
+}
+
+/// One printed line: decimal numbers with one blank between them, and LF.
+pub(crate) fn print(numbers: &[u64], out: &mut Vec<u8>) {
+    let words: Vec<String> = numbers.iter().map(u64::to_string).collect();
+    out.extend(words.join(" ").bytes());
+    out.push(b'\n');
+}
+
+/// Everything a stream of commands prints.
+pub fn run(stream: &[u8], readers: Readers) -> Vec<u8> {
+    let mut desk = Desk::new(readers);
+    let mut out = Vec::new();
+    for command in decode(stream) {
+        if let Some(numbers) = desk.answer(&command) {
+            print(&numbers, &mut out);
+        }
+    }
+    out
+}

@@ -1,0 +1,67 @@
+//! The case maker: a seeded stream of commands and the independent reader's
+//! answers to them.
+//!
+//! The same seed gives the same bytes on every machine: nothing here depends
+//! on hash order, time or the size of a word.
+
+mod command;
+mod damage;
+mod deep;
+mod desk;
+mod formed;
+mod maker;
+mod random;
+mod records;
+mod sheet;
+mod soup;
+mod textbook;
+
+pub use command::{decode, Command};
+pub use desk::{run, Desk, Readers};
+pub use maker::{Cases, Tally};
+pub use random::Random;
+pub use sheet::Sheet;
+pub use textbook::{sheet_a, sheet_b, sum_sheet};
+
+use maker::Maker;
+
+/// The seed of the cases that are kept with the sources.
+pub const SEED: u64 = 20_260_401;
+
+/// So many answered commands are made.
+pub const COMMANDS: u64 = 24_000;
+
+/// All cases of a seed.
+pub fn make(seed: u64) -> Cases {
+    let mut maker = Maker::new(seed);
+    textbook::add(&mut maker);
+    damage::add(&mut maker);
+    records::add(&mut maker);
+    deep::add(&mut maker);
+    formed::add(&mut maker);
+    // Random sheets fill what is left.
+    soup::add(&mut maker, COMMANDS);
+    maker.finish()
+}
+
+#[cfg(test)]
+mod tests {
+    use super::*;
+
+    #[test]
+    fn a_seed_gives_the_same_bytes_again() {
+        let (once, again) = (make(SEED), make(SEED));
+        assert!(once.stdin == again.stdin && once.stdout == again.stdout);
+        assert!(once.stdin != make(SEED + 1).stdin);
+    }
+
+    #[test]
+    fn commands_survive_encoding() {
+        let stdin = make(SEED).stdin;
+        let mut encoded = Vec::new();
+        for command in decode(&stdin) {
+            command.encode(&mut encoded);
+        }
+        assert!(encoded == stdin);
+    }
+}

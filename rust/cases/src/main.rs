@@ -1,0 +1,51 @@
+//! `cases OUT_STDIN OUT_STDOUT` writes the commands and the independent
+//! reader's answers, and a table of counts to the standard error.
+
+use std::process::ExitCode;
+
+use cases::{make, Tally, SEED};
+
+/// Fewer than this of any code are too few to compare by.
+const LEAST_OF_A_CODE: u64 = 50;
+const LEAST_COMMANDS: u64 = 20_000;
+
+fn main() -> ExitCode {
+    let arguments: Vec<String> = std::env::args().skip(1).collect();
+    let [stdin, stdout] = arguments.as_slice() else {
+        eprintln!("usage: cases OUT_STDIN OUT_STDOUT");
+        return ExitCode::FAILURE;
+    };
+    let cases = make(SEED);
+    for (path, bytes) in [(stdin, &cases.stdin), (stdout, &cases.stdout)] {
+        if let Err(error) = std::fs::write(path, bytes) {
+            eprintln!("{path}: {error}");
+            return ExitCode::FAILURE;
+        }
+    }
+    print_counts(&cases.tally);
+    eprintln!(
+        "stdin {} bytes, stdout {} bytes",
+        cases.stdin.len(),
+        cases.stdout.len()
+    );
+    if enough(&cases.tally) {
+        ExitCode::SUCCESS
+    } else {
+        eprintln!("too few cases");
+        ExitCode::FAILURE
+    }
+}
+
+fn print_counts(tally: &Tally) {
+    for (code, count) in tally.codes.iter().enumerate() {
+        let name = independent::names(code as u64).expect("codes have names");
+        eprintln!("{code:2} {name:8} {count:6}");
+    }
+    let [not, is] = tally.well_formed;
+    eprintln!("well formed {is}, not well formed {not}");
+    eprintln!("commands {}", tally.commands);
+}
+
+fn enough(tally: &Tally) -> bool {
+    tally.commands >= LEAST_COMMANDS && tally.codes.iter().all(|&count| count >= LEAST_OF_A_CODE)
+}

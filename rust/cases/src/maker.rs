@@ -1,0 +1,216 @@
+//! Making commands one by one, with their answers and a tally.
+
+use crate::command::{Command, Lending};
+use crate::desk::{print, Desk, Readers};
+use crate::random::Random;
+
+/// The most a command can lend.
+const MOST_WORK: u64 = 65_536;
+const MOST_ROOM: u64 = 5_120;
+
+/// Room for the largest stored reading.
+const FULL_ROOM: usize = 5_005;
+
+/// The finished cases.
+pub struct Cases {
+    pub stdin: Vec<u8>,
+    pub stdout: Vec<u8>,
+    pub tally: Tally,
+}
+
+/// How often each thing was answered.
+#[derive(Clone, Default)]
+pub struct Tally {
+    /// Commands that print a line.
+    pub commands: u64,
+    /// Times each code was given by check, report or reading.
+    pub codes: [u64; independent::CODES],
+    /// Times a stored reading was not and was well formed.
+    pub well_formed: [u64; 2],
+}
+
+/// A reading tried out beforehand, to aim the edges of its commands.
+pub struct Trial {
+    pub code: u64,
+    pub visits: u64,
+    pub records: u64,
+    pub stored: Vec<u8>,
+}
+
+impl Trial {
+    pub fn of(table: &[u8], line: &[u8], whole: bool, allowance: u64) -> Trial {
+        let mut work = vec![0; needed(table, line, allowance) as usize];
+        let mut room = vec![0; FULL_ROOM];
+        let answer = independent::read(table, line, allowance, &mut work, &mut room, whole);
+        let stored = match answer.code {
+            independent::READ => 5 + 5 * answer.records as usize,
+            _ => 0,
+        };
+        room.truncate(stored);
+        Trial {
+            code: answer.code,
+            visits: answer.visits,
+            records: answer.records,
+            stored: room,
+        }
+    }
+}
+
+/// The formula of the working numbers, also for a table that is refused.
+fn needed(table: &[u8], line: &[u8], allowance: u64) -> u64 {
+    let n = match table {
+        [_, _, _, high, low, ..] => u64::from(*high) * 256 + u64::from(*low),
+        _ => 0,
+    };
+    2_048 + 4 * allowance.min(1_000_000) + 2 * n * (line.len() as u64 + 1)
+}
+
+pub struct Maker {
+    pub random: Random,
+    desk: Desk,
+    cases: Cases,
+}
+
+impl Maker {
+    pub fn new(seed: u64) -> Maker {
+        Maker {
+            random: Random::new(seed),
+            desk: Desk::new(Readers::independent()),
+            cases: Cases {
+                stdin: Vec::new(),
+                stdout: Vec::new(),
+                tally: Tally::default(),
+            },
+        }
+    }
+
+    pub fn finish(self) -> Cases {
+        self.cases
+    }
+
+    /// Commands made so far that print a line.
+    pub fn commands(&self) -> u64 {
+        self.cases.tally.commands
+    }
+
+    /// Puts a command on the stream and its answer below it.
+    fn put(&mut self, command: Command) {
+        command.encode(&mut self.cases.stdin);
+        let Some(numbers) = self.desk.answer(&command) else {
+            return;
+        };
+        print(&numbers, &mut self.cases.stdout);
+        let tally = &mut self.cases.tally;
+        tally.commands += 1;
+        let first = numbers[0] as usize;
+        match command {
+            Command::WellFormed { .. } => tally.well_formed[first] += 1,
+            _ => tally.codes[first] += 1,
+        }
+    }
+
+    pub fn table(&mut self, table: &[u8]) {
+        if self.desk.table() != table {
+            self.put(Command::Table(table.to_vec()));
+        }
+    }
+
+    pub fn line(&mut self, line: &[u8]) {
+        if self.desk.line() != line {
+            self.put(Command::Line(line.to_vec()));
+        }
+    }
+
+    pub fn check(&mut self) {
+        self.put(Command::Check);
+    }
+
+    pub fn report(&mut self) {
+        self.put(Command::Report);
+    }
+
+    pub fn well_formed(&mut self, stored: &[u8], rules: u16, line_length: u16) {
+        assert!(stored.len() as u64 <= MOST_ROOM);
+        self.put(Command::WellFormed {
+            rules,
+            line_length,
+            stored: stored.to_vec(),
+        });
+    }
+
+    /// A reading of the current table and line. More than a command can lend
+    /// is cut down to the most it can.
+    pub fn read(&mut self, whole: bool, allowance: u64, work: u64, room: u64) {
+        let fill = self.random.below(256) as u8;
+        self.put(Command::Read(Lending {
+            whole,
+            allowance,
+            work: work.min(MOST_WORK) as u32,
+            room: room.min(MOST_ROOM) as u16,
+            fill,
+        }));
+    }
+
+    /// The working numbers the formula asks for with the current table and
+    /// line, whatever they are worth.
+    pub fn needed(&self, allowance: u64) -> u64 {
+        needed(self.desk.table(), self.desk.line(), allowance)
+    }
+
+    /// The largest allowance, up to `wish`, whose working numbers can be lent.
+    pub fn affordable(&self, wish: u64) -> u64 {
+        let spare = MOST_WORK.saturating_sub(self.needed(0));
+        wish.min(spare / 4).max(1)
+    }
+
+    /// A reading with working numbers for its allowance and mostly a few more.
+    pub fn read_with_enough(&mut self, whole: bool, allowance: u64, room: u64) {
+        let extra = self.random.below(41);
+        let work = self.needed(allowance) + extra;
+        self.read(whole, allowance, work, room);
+    }
+
+    /// What a reading of the current table and line gives, without a command.
+    pub fn trial(&self, whole: bool, allowance: u64) -> Trial {
+        Trial::of(self.desk.table(), self.desk.line(), whole, allowance)
+    }
+
+    /// All edges of one reading: allowance, working numbers and room exact,
+    /// one short and none.
+    pub fn edges(&mut self, whole: bool, wish: u64) {
+        let allowance = self.affordable(wish);
+        let trial = self.trial(whole, allowance);
+        let visits = trial.visits.max(1);
+        let ample = match trial.code {
+            independent::READ => trial.stored.len() as u64 + self.random.below(30),
+            _ => self.random.below(60),
+        };
+        let slack = self.random.below((allowance - visits).min(30) + 1);
+        self.read_with_enough(whole, visits + slack, ample);
+        self.read(whole, visits, self.needed(visits), ample);
+        self.read(whole, visits, self.needed(visits) - 1, ample);
+        if visits > 1 {
+            self.read_with_enough(whole, visits - 1, ample);
+        }
+        // The same for every sheet and line, so now and then is enough.
+        if self.random.chance(20) {
+            self.read(whole, visits, 0, ample);
+            self.read_with_enough(whole, 1, ample);
+        }
+        if trial.code == independent::READ {
+            let stored = trial.stored.len() as u64;
+            self.read_with_enough(whole, visits, stored);
+            self.read_with_enough(whole, visits, stored - 1);
+            self.read_with_enough(whole, visits, 0);
+        }
+    }
+
+    /// The allowances at and beyond their limits. Working numbers for the
+    /// largest cannot be lent, so that one asks for more of them.
+    pub fn allowance_limits(&mut self, whole: bool) {
+        for allowance in [0, 1_000_000, 1_000_001, 1 << 63, u64::MAX] {
+            let work = self.random.pick(&[0, 100, 2_600]);
+            self.read(whole, allowance, work, 40);
+        }
+    }
+}

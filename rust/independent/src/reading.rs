@@ -1,0 +1,372 @@
+//! How a line is read.
+
+use std::collections::HashMap;
+use std::rc::Rc;
+
+use crate::report::is_free;
+use crate::stored::{store, stored_length};
+use crate::table::{open, Node, Table};
+use crate::{Refusal, ALLOW, DEEP, EFFORT, FAIL, LINE, READ, RECORDS, REST, ROOM, WORK};
+
+/// What a reading returns.
+#[derive(Clone, Copy, Debug, PartialEq, Eq)]
+pub struct Answer {
+    pub code: u64,
+    pub place: u64,
+    pub matched: u64,
+    pub visits: u64,
+    pub records: u64,
+}
+
+/// A tree over this many records is not stored.
+const MOST_RECORDS: u64 = 1_000;
+
+/// So many visits may be open at once.
+const MOST_OPEN: u64 = 512;
+
+/// One successful rule use.
+#[derive(Debug)]
+pub(crate) struct Tree {
+    pub rule: usize,
+    pub start: usize,
+    pub end: usize,
+    pub children: Vec<Rc<Tree>>,
+    /// Records in this tree, itself included; at most 1,000.
+    pub records: u64,
+}
+
+/// A list of trees.
+///
+/// Shared empty trees double at each sequence that uses one child twice, so
+/// a list can be longer than any memory. But once a list holds over 1,000
+/// records, every tree made from it does too and none of them is ever
+/// stored: that much is all there is to remember of it.
+#[derive(Clone, Debug)]
+enum Trees {
+    Listed(Vec<Rc<Tree>>),
+    TooMany,
+}
+
+/// The answer of a visit.
+#[derive(Clone, Debug)]
+enum Outcome {
+    Failure,
+    Match { end: usize, trees: Trees },
+}
+
+/// A prefix reading, or a whole-line reading if `whole`.
+pub fn read(
+    table: &[u8],
+    line: &[u8],
+    allowance: u64,
+    work: &mut [u32],
+    room: &mut [u8],
+    whole: bool,
+) -> Answer {
+    let table = match open(table) {
+        Ok(table) => table,
+        Err(refusal) => return refused(refusal.code, refusal.place),
+    };
+    if line.len() > 255 {
+        return refused(LINE, 0);
+    }
+    if allowance == 0 || allowance > 1_000_000 {
+        return refused(ALLOW, 0);
+    }
+    let formula = 2_048 + 4 * allowance + 2 * table.nodes.len() as u64 * (line.len() as u64 + 1);
+    if (work.len() as u64) < formula {
+        return refused(WORK, 0);
+    }
+
+    // This reader needs no working numbers of its own; it only leaves them
+    // as the rules say.
+    for number in &mut work[..formula as usize] {
+        *number = 0;
+    }
+
+    let mut reading = Reading {
+        table: &table,
+        line,
+        allowance,
+        free: is_free(&table),
+        visits: 0,
+        open: 0,
+        kept: HashMap::new(),
+        held: HashMap::new(),
+    };
+    let outcome = reading.use_rule(0, 0);
+    let visits = reading.visits;
+    conclude(outcome, visits, line.len(), room, whole)
+}
+
+/// Codes 1 to 10 return zeros else.
+fn refused(code: u64, place: u64) -> Answer {
+    Answer {
+        code,
+        place,
+        matched: 0,
+        visits: 0,
+        records: 0,
+    }
+}
+
+/// From the use of rule 0 at position 0 to what comes back.
+fn conclude(
+    outcome: Result<Outcome, Refusal>,
+    visits: u64,
+    line_length: usize,
+    room: &mut [u8],
+    whole: bool,
+) -> Answer {
+    let answer = |code, place, matched, records| Answer {
+        code,
+        place,
+        matched,
+        visits,
+        records,
+    };
+    let (end, trees) = match outcome {
+        Err(stop) => return answer(stop.code, stop.place, 0, 0),
+        Ok(Outcome::Failure) => return answer(FAIL, 0, 0, 0),
+        Ok(Outcome::Match { end, trees }) => (end, trees),
+    };
+    let matched = end as u64;
+    if whole && end < line_length {
+        return answer(REST, matched, matched, 0);
+    }
+    // A successful rule use is one tree, so a listed answer has one element.
+    let tree = match trees {
+        Trees::TooMany => return answer(RECORDS, matched, matched, MOST_RECORDS + 1),
+        Trees::Listed(trees) => trees[0].clone(),
+    };
+    if (room.len() as u64) < stored_length(tree.records) {
+        return answer(ROOM, matched, matched, tree.records);
+    }
+    store(&tree, room);
+    answer(READ, 0, matched, tree.records)
+}
+
+/// A reading under way.
+struct Reading<'a> {
+    table: &'a Table,
+    line: &'a [u8],
+    allowance: u64,
+    free: bool,
+    /// Visits made.
+    visits: u64,
+    /// Visits open.
+    open: u64,
+    /// Free grammars: the answer of each finished pair (node, position).
+    kept: HashMap<(usize, usize), Outcome>,
+    /// All others: what is held for each live pair (rule, position).
+    held: HashMap<(usize, usize), Outcome>,
+}
+
+impl Reading<'_> {
+    /// One application of a node at a position. An error is the refusal of
+    /// this visit or of one made while it was open.
+    fn visit(&mut self, number: usize, position: usize) -> Result<Outcome, Refusal> {
+        if self.visits == self.allowance {
+            return Err(refused_visit(EFFORT, position));
+        }
+        if self.open == MOST_OPEN {
+            return Err(refused_visit(DEEP, position));
+        }
+        self.visits += 1;
+        if self.free {
+            if let Some(outcome) = self.kept.get(&(number, position)) {
+                return Ok(outcome.clone());
+            }
+        }
+        self.open += 1;
+        let outcome = self.apply(number, position)?;
+        self.open -= 1;
+        if self.free {
+            self.kept.insert((number, position), outcome.clone());
+        }
+        Ok(outcome)
+    }
+
+    fn apply(&mut self, number: usize, position: usize) -> Result<Outcome, Refusal> {
+        match self.table.nodes[number] {
+            Node::Empty => Ok(nothing(position)),
+            Node::Range { lowest, highest } => Ok(self.range(lowest, highest, position)),
+            Node::Rule(rule) => self.use_rule(rule, position),
+            Node::Sequence(first, second) => self.sequence(first, second, position),
+            Node::Choice(first, second) => self.choice(first, second, position),
+            Node::Not(child) => self.not(child, position),
+            Node::Repetition(child) => self.repetition(number, child, position),
+        }
+    }
+
+    fn range(&self, lowest: u16, highest: u16, position: usize) -> Outcome {
+        match self.line.get(position) {
+            Some(&byte) if lowest <= u16::from(byte) && u16::from(byte) <= highest => {
+                Outcome::Match {
+                    end: position + 1,
+                    trees: Trees::Listed(vec![]),
+                }
+            }
+            _ => Outcome::Failure,
+        }
+    }
+
+    fn sequence(
+        &mut self,
+        first: usize,
+        second: usize,
+        position: usize,
+    ) -> Result<Outcome, Refusal> {
+        match self.visit(first, position)? {
+            Outcome::Failure => Ok(Outcome::Failure),
+            Outcome::Match { end, trees } => {
+                let after = self.visit(second, end)?;
+                Ok(joined(trees, after))
+            }
+        }
+    }
+
+    fn choice(&mut self, first: usize, second: usize, position: usize) -> Result<Outcome, Refusal> {
+        match self.visit(first, position)? {
+            Outcome::Failure => self.visit(second, position),
+            matched => Ok(matched),
+        }
+    }
+
+    fn not(&mut self, child: usize, position: usize) -> Result<Outcome, Refusal> {
+        match self.visit(child, position)? {
+            Outcome::Failure => Ok(nothing(position)),
+            Outcome::Match { .. } => Ok(Outcome::Failure),
+        }
+    }
+
+    fn repetition(
+        &mut self,
+        itself: usize,
+        child: usize,
+        position: usize,
+    ) -> Result<Outcome, Refusal> {
+        match self.visit(child, position)? {
+            Outcome::Failure => Ok(nothing(position)),
+            // No trees even if the child made some.
+            Outcome::Match { end, .. } if end == position => Ok(nothing(position)),
+            Outcome::Match { end, trees } => {
+                let after = self.visit(itself, end)?;
+                Ok(joined(trees, after))
+            }
+        }
+    }
+
+    /// A use of a rule at a position.
+    fn use_rule(&mut self, rule: usize, position: usize) -> Result<Outcome, Refusal> {
+        if self.free {
+            let outcome = self.visit(self.table.roots[rule], position)?;
+            return Ok(as_one_tree(rule, position, outcome));
+        }
+        match self.held.get(&(rule, position)) {
+            Some(held) => Ok(held.clone()),
+            None => self.grow(rule, position),
+        }
+    }
+
+    /// A use that isn't live becomes live with failure held and is grown.
+    fn grow(&mut self, rule: usize, position: usize) -> Result<Outcome, Refusal> {
+        let pair = (rule, position);
+        let mut held = Outcome::Failure;
+        loop {
+            self.held.insert(pair, held.clone());
+            let attempt = self.visit(self.table.roots[rule], position)?;
+            if !is_longer(&attempt, &held) {
+                break;
+            }
+            held = as_one_tree(rule, position, attempt);
+        }
+        self.held.remove(&pair);
+        Ok(held)
+    }
+}
+
+fn refused_visit(code: u64, position: usize) -> Refusal {
+    Refusal {
+        code,
+        place: position as u64,
+    }
+}
+
+/// A match of nothing, with no trees.
+fn nothing(position: usize) -> Outcome {
+    Outcome::Match {
+        end: position,
+        trees: Trees::Listed(vec![]),
+    }
+}
+
+/// Whether an attempt goes on growing what is held. Any match is longer than
+/// a failure; a match of equal length is not longer.
+fn is_longer(attempt: &Outcome, held: &Outcome) -> bool {
+    match (attempt, held) {
+        (Outcome::Failure, _) => false,
+        (Outcome::Match { .. }, Outcome::Failure) => true,
+        (Outcome::Match { end, .. }, Outcome::Match { end: held_end, .. }) => end > held_end,
+    }
+}
+
+/// The trees found before, then those of `after`; a failure if that failed.
+fn joined(before: Trees, after: Outcome) -> Outcome {
+    match after {
+        Outcome::Failure => Outcome::Failure,
+        Outcome::Match { end, trees } => Outcome::Match {
+            end,
+            trees: join(before, trees),
+        },
+    }
+}
+
+fn join(before: Trees, after: Trees) -> Trees {
+    match (before, after) {
+        (Trees::Listed(mut trees), Trees::Listed(more)) => {
+            trees.extend(more);
+            if records_in(&trees) > MOST_RECORDS {
+                Trees::TooMany
+            } else {
+                Trees::Listed(trees)
+            }
+        }
+        _ => Trees::TooMany,
+    }
+}
+
+/// A successful rule use is one tree: the rule, its span, the trees of its
+/// root as children.
+fn as_one_tree(rule: usize, start: usize, outcome: Outcome) -> Outcome {
+    match outcome {
+        Outcome::Failure => Outcome::Failure,
+        Outcome::Match { end, trees } => Outcome::Match {
+            end,
+            trees: plant(rule, start, end, trees),
+        },
+    }
+}
+
+fn plant(rule: usize, start: usize, end: usize, trees: Trees) -> Trees {
+    let Trees::Listed(children) = trees else {
+        return Trees::TooMany;
+    };
+    let records = records_in(&children) + 1;
+    if records > MOST_RECORDS {
+        return Trees::TooMany;
+    }
+    Trees::Listed(vec![Rc::new(Tree {
+        rule,
+        start,
+        end,
+        children,
+        records,
+    })])
+}
+
+/// At most a thousand trees of at most a thousand records each, or one list
+/// of that size joined to another: far from overflow.
+fn records_in(trees: &[Rc<Tree>]) -> u64 {
+    trees.iter().map(|tree| tree.records).sum()
+}

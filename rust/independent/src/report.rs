@@ -1,0 +1,112 @@
+//! The report on a table: which rules may be empty, which are left-recursive.
+
+use crate::table::{open, Node, Table};
+use crate::READ;
+
+#[derive(Clone, Copy, Debug, PartialEq, Eq)]
+pub struct Report {
+    pub code: u64,
+    pub place: u64,
+    /// Bit i is set if the root of rule i may be empty.
+    pub may_be_empty: u64,
+    /// Bit i is set if rule i is left-recursive.
+    pub left_recursive: u64,
+    /// How many bits are set in `left_recursive`.
+    pub how_many: u64,
+    /// The lowest rule set in `left_recursive`, 64 if none.
+    pub lowest: u64,
+}
+
+pub fn report(table: &[u8]) -> Report {
+    match open(table) {
+        Err(refusal) => Report {
+            code: refusal.code,
+            place: refusal.place,
+            may_be_empty: 0,
+            left_recursive: 0,
+            how_many: 0,
+            lowest: 64,
+        },
+        Ok(table) => report_on(&table),
+    }
+}
+
+/// A grammar is free if no rule in its table is left-recursive.
+pub(crate) fn is_free(table: &Table) -> bool {
+    report_on(table).how_many == 0
+}
+
+fn report_on(table: &Table) -> Report {
+    let empty = nodes_that_may_be_empty(table);
+    let mut report = Report {
+        code: READ,
+        place: 0,
+        may_be_empty: 0,
+        left_recursive: 0,
+        how_many: 0,
+        lowest: 64,
+    };
+    for rule in 0..table.roots.len() {
+        if empty[table.roots[rule]] {
+            report.may_be_empty |= 1 << rule;
+        }
+        if is_left_recursive(table, &empty, rule) {
+            report.left_recursive |= 1 << rule;
+            report.how_many += 1;
+            report.lowest = report.lowest.min(rule as u64);
+        }
+    }
+    report
+}
+
+/// The least reading: start from "none" and add nodes until nothing changes.
+fn nodes_that_may_be_empty(table: &Table) -> Vec<bool> {
+    let mut empty = vec![false; table.nodes.len()];
+    loop {
+        let mut changed = false;
+        for (number, node) in table.nodes.iter().enumerate() {
+            let now = match *node {
+                Node::Empty | Node::Not(_) | Node::Repetition(_) => true,
+                Node::Range { .. } => false,
+                Node::Rule(rule) => empty[table.roots[rule]],
+                Node::Sequence(first, second) => empty[first] && empty[second],
+                Node::Choice(first, second) => empty[first] || empty[second],
+            };
+            if now && !empty[number] {
+                empty[number] = true;
+                changed = true;
+            }
+        }
+        if !changed {
+            return empty;
+        }
+    }
+}
+
+/// The nodes this node starts with.
+fn starts_with(table: &Table, empty: &[bool], number: usize) -> Vec<usize> {
+    match table.nodes[number] {
+        Node::Empty | Node::Range { .. } => vec![],
+        Node::Rule(rule) => vec![table.roots[rule]],
+        Node::Not(child) | Node::Repetition(child) => vec![child],
+        Node::Choice(first, second) => vec![first, second],
+        Node::Sequence(first, second) if empty[first] => vec![first, second],
+        Node::Sequence(first, _) => vec![first],
+    }
+}
+
+/// Whether a chain of one or more steps leads from the rule's root to a use
+/// of the same rule.
+fn is_left_recursive(table: &Table, empty: &[bool], rule: usize) -> bool {
+    let mut reached = vec![false; table.nodes.len()];
+    let mut to_follow = vec![table.roots[rule]];
+    while let Some(number) = to_follow.pop() {
+        for next in starts_with(table, empty, number) {
+            if !reached[next] {
+                reached[next] = true;
+                to_follow.push(next);
+            }
+        }
+    }
+    (0..table.nodes.len()).any(|number| reached[number] && table.nodes[number] == Node::Rule(rule))
+}

@@ -1,0 +1,97 @@
+//! The baseline answers every case as the independent reader does, buffers
+//! included.
+
+use cases::{make, run, sheet_a, sum_sheet, Readers, SEED};
+
+fn plain_readers() -> Readers {
+    Readers {
+        check: plain::check,
+        report: |table| {
+            let report = plain::report(table);
+            [
+                report.code,
+                report.place,
+                report.may_be_empty,
+                report.left_recursive,
+                report.how_many,
+                report.lowest,
+            ]
+        },
+        read: |table, line, allowance, work, room, whole| {
+            let answer = plain::read(table, line, allowance, work, room, whole);
+            [
+                answer.code,
+                answer.place,
+                answer.matched,
+                answer.visits,
+                answer.records,
+            ]
+        },
+        // The baseline has no such function of its own.
+        well_formed: Readers::independent().well_formed,
+    }
+}
+
+fn all_equal(seed: u64) {
+    let cases = make(seed);
+    let answered = run(&cases.stdin, plain_readers());
+    let expected = String::from_utf8(cases.stdout).unwrap();
+    let given = String::from_utf8(answered).unwrap();
+    for (number, (expected, given)) in expected.lines().zip(given.lines()).enumerate() {
+        assert_eq!(given, expected, "answer {number} of seed {seed}");
+    }
+    assert_eq!(given.len(), expected.len());
+}
+
+#[test]
+fn the_kept_cases() {
+    all_equal(SEED);
+}
+
+#[test]
+fn other_seeds() {
+    for seed in 1..=2 {
+        all_equal(seed);
+    }
+}
+
+/// The largest allowances, whose working numbers the kept cases cannot lend.
+#[test]
+fn large_allowances() {
+    let sums = [
+        "((1+2)*(3-4)+5)*6-(7)".to_string(),
+        "(((((1)))))".to_string(),
+        "1+2*3-4+".repeat(31),
+        "9".to_string() + &"+9".repeat(127),
+    ];
+    for (sheet, allowance) in [
+        (sum_sheet(), 1_000_000),
+        (sum_sheet(), 300_000),
+        (sheet_a(), 1_000_000),
+    ] {
+        let table = sheet.table();
+        for line in &sums {
+            for whole in [false, true] {
+                let given = answer(plain_readers(), &table, line.as_bytes(), allowance, whole);
+                let expected = answer(
+                    Readers::independent(),
+                    &table,
+                    line.as_bytes(),
+                    allowance,
+                    whole,
+                );
+                assert!(given == expected, "{line} {allowance} {whole}");
+            }
+        }
+    }
+}
+
+/// An answer with what is left in the working numbers and the room.
+type Left = ([u64; 5], Vec<u32>, Vec<u8>);
+
+fn answer(readers: Readers, table: &[u8], line: &[u8], allowance: u64, whole: bool) -> Left {
+    let mut work = vec![7; 4_100_000];
+    let mut room = vec![7; 5_005];
+    let answer = (readers.read)(table, line, allowance, &mut work, &mut room, whole);
+    (answer, work, room)
+}
