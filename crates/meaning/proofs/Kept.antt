@@ -7,7 +7,7 @@ use mathlib.Core.List.{List, []}
 use mathlib.Core.Option.{Option, none, some}
 use Rattle.meaning.specs.Grammar.{Node, rule, rep, Grammar, node, rootOf, Answer, fail, ok, Note, noted, look}
 use Rattle.meaning.specs.Rules.{Plain, empty1, char1, char2, var, con1, con2, con3, ord1, ord2, not1, not2, rep1, rep2, rep3}
-use Rattle.meaning.specs.Reading.{State, Run, Visit, wrapped, keep, useRule, recall, visited, visit, readBy}
+use Rattle.meaning.specs.Reading.{State, Visit, deep, wrapped, keep, useRule, recall, visited, visit, readBy}
 use Rattle.meaning.proofs.Answers.{never, found}
 use Rattle.meaning.proofs.Notes.{look-cases}
 use Rattle.meaning.proofs.Runs.{All, all-after, all-map, ends-counted}
@@ -91,7 +91,7 @@ module _ (g : Grammar) (line : List ℕ) where
 
   of-visit : (d : ℕ) (l : List Note) (i x : ℕ) (s : State) → All (Visits i x s) (visit g line true d l i x s)
   unfolding visit visited
-  of-visit zero l i x s = ends-counted _ _ _ (s .left) x s (λ t. _) (λ e. tt) (λ n e. tt)
+  of-visit zero l i x s = ends-counted _ _ _ (s .left) x s (λ t. deep x s) (λ e. tt) (λ n e. tt)
   of-visit (suc d) l i x s =
       ends-counted _ _ _ (s .left) x s (visited g line true (visit g line true d) l i x) (λ e. tt)
       (λ n e. of-recall (visit g line true d) l (of-visit d l) i x (record { left = n; kept = s .kept }) (look (s .kept) i x) refl)

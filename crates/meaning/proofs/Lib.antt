@@ -14,3 +14,10 @@ pub mod Effort
 pub mod Spans
 pub mod Answered
 pub mod Free
+pub mod Pairs
+pub mod Lower
+pub mod Ceiling
+pub mod Settle
+pub mod Through
+pub mod Decided
+pub mod Claims

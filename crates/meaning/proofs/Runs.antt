@@ -29,6 +29,13 @@ module _ {E D E′ D′ : State → Type 0} {P : Answer → State → Type 0} wh
   ends-map (deep p s) h f d c = d s h
   ends-map (done r s) h f d c = c r s h
 
+-- Two facts about one run, as a third.
+pub ends-both : {E D E′ D′ E″ D″ : State → Type 0} {P P′ P″ : Answer → State → Type 0} (m : Run) → Ends E D P m → Ends E′ D′ P′ m
+    → ((s : State) → E s → E′ s → E″ s) → ((s : State) → D s → D′ s → D″ s) → ((r : Answer) (s : State) → P r s → P′ r s → P″ r s) → Ends E″ D″ P″ m
+ends-both (effort p s) h k f d c = f s h k
+ends-both (deep p s) h k f d c = d s h k
+ends-both (done r s) h k f d c = c r s h k
+
 -- Before a visit: none is left, or k makes it with one less.
 pub ends-counted : (E D : State → Type 0) (P : Answer → State → Type 0) (n x : ℕ) (s : State) (k : State → Run) → (n ≡ 0 → E s)
     → ((l : ℕ) → n ≡ suc l → Ends E D P (k (record { left = l; kept = s .kept }))) → Ends E D P (counted n x s k)

@@ -1,92 +1,104 @@
--- Which rules may be empty, which are left-recursive and whether a grammar is free, computed in rounds of marks. Nobody need believe it:
--- proofs/Decided shows that these are the relations of Report.
-use Prim.Native.Nat.{ℕ, zero, suc, _+_}
+-- Which rules may be empty, which are left-recursive and whether a grammar is free, computed with lists of marks, a mark for each node or rule.
+-- Nobody need believe it: proofs/Decided shows that this is what Report says.
+use Prim.Native.Nat.{ℕ, zero, suc}
 use mathlib.Core.Bool.{Bool, true, false, _&&_, _||_, cond}
 use mathlib.Core.Bool as B
-use mathlib.Core.List.{List, [], _∷_, _++_, map}
-use lib.ListN.{length, getD, replicate, set}
-use Rattle.meaning.specs.Grammar.{Node, empty, range, rule, seq, choice, not, rep, Grammar, node}
+use mathlib.Core.List.{List, [], _∷_, map}
+use lib.ListN.{length, getD, replicate}
+use Rattle.meaning.specs.Grammar.{Node, empty, range, rule, seq, choice, not, rep, Grammar, rootOf}
 
--- Marks joined: of whichever length; and of the first's.
+-- Marks joined, of whichever length.
 abbrev pub either : List Bool → List Bool → List Bool
 either [] ys = ys
 either (x ∷ xs) [] = x ∷ xs
 either (x ∷ xs) (y ∷ ys) = (x || y) ∷ either xs ys
 
-abbrev pub add : List Bool → List Bool → List Bool
-add [] ys = []
-add (x ∷ xs) [] = x ∷ xs
-add (x ∷ xs) (y ∷ ys) = (x || y) ∷ add xs ys
+-- The one number marked.
+abbrev pub only : ℕ → List Bool
+only zero = true ∷ []
+only (suc i) = false ∷ only i
+
+-- A round: a node stays marked, or is marked if the test says so.
+abbrev pub mark : (Node → Bool) → List Node → List Bool → List Bool
+mark test ps [] = []
+mark test [] (m ∷ ms) = m ∷ ms
+mark test (p ∷ ps) (m ∷ ms) = (m || test p) ∷ mark test ps ms
 
 abbrev pub rounds : ℕ → (List Bool → List Bool) → List Bool → List Bool
-rounds zero f x = x
-rounds (suc n) f x = rounds n f (f x)
+rounds zero f ms = ms
+rounds (suc k) f ms = rounds k f (f ms)
 
--- As many rounds as there are marks, from none marked, each adding.
-abbrev pub least : ℕ → (List Bool → List Bool) → List Bool
-least r f = rounds r (λ x. add x (f x)) (replicate r false)
+-- The nodes marked in the end, by a test that sees the marks so far. A round that adds none is the last that matters: as many as nodes are enough.
+abbrev pub settled : List Node → (List Bool → Node → Bool) → List Bool
+settled ps test = rounds (length ps) (λ ms. mark (test ms) ps ms) (replicate (length ps) false)
+
+-- Row i marks where i leads. Through k: what leads to k leads where k does. By turns through each number below n.
+abbrev pub through : ℕ → List (List Bool) → List (List Bool)
+through k rows = let row = getD rows k [] in map (λ r. cond (getD r k false) (either r row) r) rows
+
+abbrev pub throughAll : ℕ → List (List Bool) → List (List Bool)
+throughAll zero rows = rows
+throughAll (suc k) rows = through k (throughAll k rows)
+
+-- The rules of which a marked node is a use.
+abbrev pub useOf : Node → List Bool
+useOf empty = []
+useOf (range lo hi) = []
+useOf (rule a) = only a
+useOf (seq a b) = []
+useOf (choice a b) = []
+useOf (not a) = []
+useOf (rep a) = []
+
+abbrev pub used : List Node → List Bool → List Bool
+used ps [] = []
+used [] (m ∷ ms) = []
+used (p ∷ ps) (m ∷ ms) = either (cond m (useOf p) []) (used ps ms)
 
 module _ (g : Grammar) where
-  -- The marks of the first n nodes, each by those of the nodes below it.
-  abbrev pub marks {ℓ} : {A : Type ℓ} → (List A → Node → A) → ℕ → List A
-  marks f zero = []
-  marks f (suc n) = let m = marks f n in m ++ (f m (node g n) ∷ [])
+  -- Whether a node may be empty, by which nodes are marked so.
+  abbrev pub emptyBy : List Bool → Node → Bool
+  emptyBy ms empty = true
+  emptyBy ms (range lo hi) = false
+  emptyBy ms (rule a) = getD ms (rootOf g a) false
+  emptyBy ms (seq a b) = getD ms a false && getD ms b false
+  emptyBy ms (choice a b) = getD ms a false || getD ms b false
+  emptyBy ms (not a) = true
+  emptyBy ms (rep a) = true
 
-  -- A node may be empty, by the rules' marks and the marks of the nodes below it.
-  abbrev pub emptyNode : List Bool → List Bool → Node → Bool
-  emptyNode rs ns empty = true
-  emptyNode rs ns (range lo hi) = false
-  emptyNode rs ns (rule a) = getD rs a false
-  emptyNode rs ns (seq a b) = getD ns a false && getD ns b false
-  emptyNode rs ns (choice a b) = getD ns a false || getD ns b false
-  emptyNode rs ns (not a) = true
-  emptyNode rs ns (rep a) = true
-
-  abbrev pub emptyNodes : List Bool → List Bool
-  emptyNodes rs = marks (emptyNode rs) (length (g .nodes))
-
-  abbrev pub emptyStep : List Bool → List Bool
-  emptyStep rs = let ns = emptyNodes rs in map (λ i. getD ns i false) (g .roots)
+  -- The nodes that may be empty, and the rules whose root may be.
+  unfoldable pub emptyNodes : List Bool
+  emptyNodes = settled (g .nodes) emptyBy
 
   unfoldable pub emptyRules : List Bool
-  emptyRules = least (length (g .roots)) emptyStep
+  unfolding emptyNodes
+  emptyRules = let es = emptyNodes in map (λ i. getD es i false) (g .roots)
 
-  -- The rules that a node uses at its start, no rule's root gone into, by which nodes may be empty.
-  abbrev pub startNode : List Bool → List (List Bool) → Node → List Bool
-  startNode ne ss empty = []
-  startNode ne ss (range lo hi) = []
-  startNode ne ss (rule a) = set (replicate (length (g .roots)) false) a true
-  startNode ne ss (seq a b) = either (getD ss a []) (cond (getD ne a false) (getD ss b []) [])
-  startNode ne ss (choice a b) = either (getD ss a []) (getD ss b [])
-  startNode ne ss (not a) = getD ss a []
-  startNode ne ss (rep a) = getD ss a []
+  -- The nodes that a node starts with, by which nodes may be empty.
+  abbrev pub startsOf : List Bool → Node → List Bool
+  startsOf es empty = []
+  startsOf es (range lo hi) = []
+  startsOf es (rule a) = only (rootOf g a)
+  startsOf es (seq a b) = either (only a) (cond (getD es a false) (only b) [])
+  startsOf es (choice a b) = either (only a) (only b)
+  startsOf es (not a) = only a
+  startsOf es (rep a) = only a
 
-  abbrev pub startNodes : List Bool → List (List Bool)
-  startNodes ne = marks (startNode ne) (length (g .nodes))
+  -- For each node the nodes that a chain of one or more steps leads to.
+  unfoldable pub ledTo : List (List Bool)
+  unfolding emptyNodes
+  ledTo = let es = emptyNodes in throughAll (length (g .nodes)) (map (startsOf es) (g .nodes))
 
-  abbrev pub startRules : List (List Bool)
-  unfolding emptyRules
-  startRules = let ss = startNodes (emptyNodes emptyRules) in map (λ i. getD ss i []) (g .roots)
-
-  -- What the first n rules start with, of those that are marked.
-  abbrev pub union : ℕ → List (List Bool) → List Bool → List Bool
-  union zero ss m = []
-  union (suc n) ss m = either (cond (getD m n false) (getD ss n []) []) (union n ss m)
-
-  -- The rules that a chain of steps from rule a's root leads to.
+  -- The rules to a use of which a chain leads from rule a's root.
   unfoldable pub reach : ℕ → List Bool
-  unfolding emptyRules
-  reach a = let ss = startRules in least (length (g .roots)) (λ m. either (getD ss a []) (union (length (g .roots)) ss m))
+  unfolding ledTo emptyNodes
+  reach a = used (g .nodes) (getD ledTo (rootOf g a) [])
 
-  abbrev pub recursive : ℕ → Bool
-  unfolding reach emptyRules
-  recursive a = getD (reach a) a false
-
-  abbrev pub noneBelow : ℕ → Bool
-  unfolding reach emptyRules
-  noneBelow zero = true
-  noneBelow (suc a) = cond (recursive a) false (noneBelow a)
+  -- None of the first k rules is left-recursive.
+  abbrev pub noneOf : ℕ → Bool
+  noneOf zero = true
+  noneOf (suc k) = B.not (getD (reach k) k false) && noneOf k
 
   unfoldable pub isFree : Bool
-  unfolding reach emptyRules
-  isFree = noneBelow (length (g .roots))
+  unfolding reach ledTo emptyNodes
+  isFree = noneOf (length (g .roots))

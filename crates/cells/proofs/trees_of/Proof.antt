@@ -1,0 +1,26 @@
+-- `trees_of` reads the count of trees, which is right.
+use native.Mathlib.Omega.{arith}
+use borrow.Author.Needs.{needs}
+use Rattle.cells.proofs.trees_of.Tie as tie
+use Rattle.cells.proofs.trees_of.Statement.{statement}
+
+mul-result : tie.Need-mul-result
+mul-result c = search needs
+
+add-result : tie.Need-add-result
+add-result c = search needs
+
+mul-result-2 : tie.Need-mul-result-2
+mul-result-2 c = search needs
+
+shared-slice-read-result : tie.Need-shared-slice-read-result
+shared-slice-read-result c = search needs
+
+returns : tie.Need-returns
+returns c =
+    let start = c .before in
+    start .pre .trees (start .args .list) (omega arith)
+
+pub trees-of-spec : {M : Type 1} → statement M
+trees-of-spec =
+    tie.close (tie.spec mul-result add-result mul-result-2 shared-slice-read-result returns)

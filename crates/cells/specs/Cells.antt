@@ -1,0 +1,72 @@
+-- Trees in the lent working numbers: cells of four words, cell k from word 2048 + 4k on. A list of trees is 0, or 1 + its cell.
+use mathlib.Core.Bool.{cond}
+use mathlib.Core.List.{List, [], _∷_, _++_}
+use mathlib.Core.Path.{_≡_}
+use Prim.Native.Nat.{ℕ, zero, suc, _+_, _*_, _/_, _%_, min}
+use lib.ListN.{getD}
+use lib.Seq.{sets}
+use lib.Dec.{ltb}
+use Rattle.meaning.specs.Grammar.{Trees, no-trees, tree, _⋈_}
+use Rattle.stored.specs.Stored.{recordsOf, recordSize, treesBytes}
+
+-- A count in a cell goes no further than 1,001.
+abbrev pub saturated : ℕ → ℕ
+saturated n = min n 1001
+
+-- The second word of a tree's cell is at least this; that of a join's is below.
+abbrev pub mark : ℕ
+mark = 1073741824
+
+-- Rule, start and end in 6, 12 and 12 bits.
+abbrev pub packed : ℕ → ℕ → ℕ → ℕ
+packed a x e = mark + a * 16777216 + x * 4096 + e
+
+-- A cell by its first two words, over the lists below it: one tree, by its children and what is packed; or two lists joined.
+unfoldable pub cellTrees : ℕ → ℕ → List Trees → Trees
+cellTrees f s below = cond (ltb s mark) (getD below f no-trees ⋈ getD below s no-trees) (tree (s / 16777216 % 64) (s / 4096 % 4096) (s % 4096) (getD below f no-trees) no-trees)
+
+-- The trees of the lists 0 to k.
+unfoldable pub lists : List ℕ → ℕ → List Trees
+lists words zero = no-trees ∷ []
+lists words (suc k) = let below = lists words k in below ++ (cellTrees (getD words (2048 + 4 * k) 0) (getD words (2049 + 4 * k) 0) below ∷ [])
+
+-- The trees that a list stands for.
+unfoldable pub treesAt : List ℕ → ℕ → Trees
+treesAt words list = getD (lists words list) list no-trees
+
+-- The saturated counts of a list: its records, and its trees. Words 2046 and 2047 are those of list 0.
+abbrev pub recordsWord : List ℕ → ℕ → ℕ
+recordsWord words list = getD words (2046 + 4 * list) 0
+
+abbrev pub treesWord : List ℕ → ℕ → ℕ
+treesWord words list = getD words (2047 + 4 * list) 0
+
+-- Cell k written: two words, its records, its trees.
+unfoldable pub withCell : List ℕ → ℕ → ℕ → ℕ → ℕ → ℕ → List ℕ
+withCell words k f s records trees = sets words (2048 + 4 * k) (f ∷ s ∷ records ∷ trees ∷ [])
+
+-- One tree written as cell k.
+abbrev pub withTree : List ℕ → ℕ → ℕ → ℕ → ℕ → ℕ → List ℕ
+withTree words k a x e children = withCell words k children (packed a x e) (saturated (recordsWord words children + 1)) 1
+
+-- Two lists joined, written as cell k.
+abbrev pub withJoin : List ℕ → ℕ → ℕ → ℕ → List ℕ
+withJoin words k f s = withCell words k f s (saturated (recordsWord words f + recordsWord words s)) (saturated (treesWord words f + treesWord words s))
+
+-- What joining two lists over the cells below top leaves; no cell is made where a side is empty.
+pub record Joined : Type 0 where
+  pub words : List ℕ
+  pub list : ℕ
+  pub top : ℕ
+
+abbrev pub joined : List ℕ → ℕ → ℕ → Joined
+joined words list top = record { words = words; list = list; top = top }
+
+unfoldable pub joinOf : List ℕ → ℕ → ℕ → ℕ → Joined
+joinOf words top zero s = joined words s top
+joinOf words top (suc f) zero = joined words (suc f) top
+joinOf words top (suc f) (suc s) = joined (withJoin words top (suc f) (suc s)) (top + 1) (top + 1)
+
+-- The records of a list of trees are written over the room from at on, as far as end.
+abbrev pub Wrote : List ℕ → List ℕ → ℕ → ℕ → ℕ → Trees → Type 0
+Wrote room new width at end ts = (end ≡ at + recordSize width * recordsOf ts) × (new ≡ sets room at (treesBytes width ts))

@@ -1,0 +1,178 @@
+// Trees in lent working numbers, with saturated counts, and the writer of the stored reading.
+//
+// Cells of four words stand from word 2048 on and are only added. A list of trees is a number: 0 for none, or 1 + its cell. A cell is one
+// tree over the list of its children, or two lists joined, and holds how many records and how many trees its list has, both at most
+// 1,001: joined twice, a list doubles, so a plain count would not fit. Words 2046 and 2047 hold the two counts of list 0.
+// specs/Cells says which trees a list stands for, as a function of the words; specs/Arena what is kept true (Arena) and what making a list
+// leaves (Made). proofs/Frame has the laws that a caller cites: a change below word 2046 or above the cells keeps every list.
+
+ghost use mathlib.Core.Path.{_≡_};
+ghost use Prim.Native.Nat.{ℕ, _+_, _*_, _<_, _≤_};
+ghost use mathlib.Core.List.{[], _∷_};
+ghost use lib.ListN.{length};
+ghost use lib.Seq.{sets};
+ghost use Rattle.meaning.specs.Grammar.{no-trees, tree, _⋈_};
+ghost use Rattle.stored.specs.Stored.{recordsOf, numberOf, recordSize, storedLength, withStored};
+ghost use Rattle.cells.specs.Cells.{saturated, treesAt, withCell, withTree, withJoin, joined, joinOf, Wrote};
+ghost use Rattle.cells.specs.Arena.{Arena, Made};
+
+// A list of trees, and the number of cells in use.
+pub struct Held {
+    pub list: u32,
+    pub top: u32,
+}
+
+// Makes ready for the first cell: list 0 has no records and no trees.
+pub fn no_cells(work: &mut [u32])
+    requires { ⌜ 2048 ≤ length (now work) ⌝ }
+    ensures words { λ _. ⌜ now (work .exit) ≡ sets (now (work .entry)) 2046 (0 ∷ 0 ∷ []) ⌝ }
+    ensures arena { λ _. ⌜ Arena (now (work .exit)) 0 ⌝ }
+{
+    work[2046] = 0;
+    work[2047] = 0;
+}
+
+// A count that goes no further than 1,001.
+fn saturate(n: u32) -> u32
+    ensures { λ r. ⌜ r ≡ saturated n ⌝ }
+{
+    if n < 1001 {
+        return n;
+    }
+    1001
+}
+
+// Writes a cell.
+fn put_cell(work: &mut [u32], top: u32, first: u32, second: u32, records: u32, trees: u32)
+    requires { ⌜ 2048 + 4 * top + 3 < length (now work) ⌝ }
+    ensures { λ _. ⌜ now (work .exit) ≡ withCell (now (work .entry)) top first second records trees ⌝ }
+{
+    let at = 2048 + 4 * top as usize;
+    work[at] = first;
+    work[at + 1] = second;
+    work[at + 2] = records;
+    work[at + 3] = trees;
+}
+
+// How many records a list has, at most 1,001.
+pub fn records_of(work: &[u32], list: u32) -> u32
+    requires { ⌜ Arena (now work) list ⌝ }
+    ensures { λ r. ⌜ r ≡ saturated (recordsOf (treesAt (now (work .entry)) list)) ⌝ }
+{
+    work[2046 + 4 * list as usize]
+}
+
+// How many trees a list has, at most 1,001.
+pub fn trees_of(work: &[u32], list: u32) -> u32
+    requires { ⌜ Arena (now work) list ⌝ }
+    ensures { λ r. ⌜ r ≡ saturated (numberOf (treesAt (now (work .entry)) list)) ⌝ }
+{
+    work[2047 + 4 * list as usize]
+}
+
+// Makes the list top + 1: one tree.
+pub fn put_tree(work: &mut [u32], top: u32, rule: u32, start: u32, end: u32, children: u32)
+    requires arena { ⌜ Arena (now work) top × (children ≤ top) ⌝ }
+    requires room { ⌜ (2048 + 4 * top + 3 < length (now work)) × (top < 1073741823) ⌝ }
+    requires small { ⌜ (rule < 64) × ((start < 4096) × (end < 4096)) ⌝ }
+    ensures words { λ _. ⌜ now (work .exit) ≡ withTree (now (work .entry)) top rule start end children ⌝ }
+    ensures made { λ _. ⌜ Made (now (work .entry)) (now (work .exit)) top (top + 1) (top + 1) (tree rule start end (treesAt (now (work .entry)) children) no-trees) ⌝ }
+{
+    let records = saturate(work[2046 + 4 * children as usize] + 1);
+    put_cell(
+        work,
+        top,
+        children,
+        1073741824 + rule * 16777216 + start * 4096 + end,
+        records,
+        1,
+    );
+}
+
+// Joins two lists that are not empty, as the list top + 1.
+fn put_join(work: &mut [u32], top: u32, left: u32, right: u32)
+    requires arena { ⌜ Arena (now work) top × ((left ≤ top) × (right ≤ top)) ⌝ }
+    requires room { ⌜ (2048 + 4 * top + 3 < length (now work)) × (top < 1073741823) ⌝ }
+    ensures { λ _. ⌜ now (work .exit) ≡ withJoin (now (work .entry)) top left right ⌝ }
+{
+    let records = saturate(work[2046 + 4 * left as usize] + work[2046 + 4 * right as usize]);
+    let trees = saturate(work[2047 + 4 * left as usize] + work[2047 + 4 * right as usize]);
+    put_cell(work, top, left, right, records, trees);
+}
+
+// Joins two lists; no cell is made where a side is empty.
+pub fn join(work: &mut [u32], top: u32, left: u32, right: u32) -> Held
+    requires arena { ⌜ Arena (now work) top × ((left ≤ top) × (right ≤ top)) ⌝ }
+    requires room { ⌜ (2048 + 4 * top + 3 < length (now work)) × (top < 1073741823) ⌝ }
+    ensures words { λ r. ⌜ joined (now (work .exit)) (r .list) (r .top) ≡ joinOf (now (work .entry)) top left right ⌝ }
+    ensures made { λ r. ⌜ Made (now (work .entry)) (now (work .exit)) top (r .list) (r .top) (treesAt (now (work .entry)) left ⋈ treesAt (now (work .entry)) right) ⌝ }
+{
+    if left == 0 {
+        return Held { list: right, top };
+    }
+    if right == 0 {
+        return Held { list: left, top };
+    }
+    put_join(work, top, left, right);
+    Held {
+        list: top + 1,
+        top: top + 1,
+    }
+}
+
+// Writes the records of a list of trees from at on, and says where they end.
+fn write_trees(work: &[u32], room: &mut [u8], width: usize, list: u32, at: usize) -> usize
+    requires arena { ⌜ Arena (now work) list ⌝ }
+    requires few { ⌜ (recordsOf (treesAt (now work) list) ≤ 1000) × ((0 < width) × (width ≤ 2)) ⌝ }
+    requires fits { ⌜ at + recordSize width * recordsOf (treesAt (now work) list) ≤ length (now room) ⌝ }
+    ensures { λ r. ⌜ Wrote (now (room .entry)) (now (room .exit)) width at r (treesAt (now (work .entry)) list) ⌝ }
+{
+    if list == 0 {
+        return at;
+    }
+    let cell = 2044 + 4 * list as usize;
+    let first = work[cell];
+    let second = work[cell + 1];
+    let mid = write_trees(work, room, width, first, at);
+    if second < 1073741824 {
+        return write_trees(work, room, width, second, mid);
+    }
+    let number = trees_of(work, first);
+    stored::put_record(
+        room,
+        width,
+        mid,
+        second / 16777216 % 64,
+        second / 4096 % 4096,
+        second % 4096,
+        number,
+    )
+}
+
+// Writes the stored reading of one tree, given by its rule, its span and the list of its children, at the room's front.
+pub fn write(
+    work: &[u32],
+    room: &mut [u8],
+    width: usize,
+    rule: u32,
+    start: u32,
+    end: u32,
+    children: u32,
+)
+    requires arena { ⌜ Arena (now work) children ⌝ }
+    requires few { ⌜ (1 + recordsOf (treesAt (now work) children) ≤ 1000) × ((0 < width) × (width ≤ 2)) ⌝ }
+    requires fits { ⌜ storedLength width (1 + recordsOf (treesAt (now work) children)) ≤ length (now room) ⌝ }
+    ensures { λ _. ⌜ now (room .exit) ≡ withStored (now (room .entry)) width (tree rule start end (treesAt (now (work .entry)) children) no-trees) ⌝ }
+{
+    stored::put_head(room, width, records_of(work, children) + 1);
+    let last = write_trees(work, room, width, children, 5);
+    stored::put_record(
+        room,
+        width,
+        last,
+        rule,
+        start,
+        end,
+        trees_of(work, children),
+    );
+}

@@ -1,0 +1,58 @@
+-- 01's sheets A and B: their tables are accepted and are the grammars that 01 lists; and the order of refusals, on small tables.
+use mathlib.Core.Path.{_≡_, refl}
+use mathlib.Core.List.{List, [], _∷_}
+use Prim.Native.Nat.{ℕ}
+use Rattle.meaning.specs.Grammar.{range, rule, seq, choice, Grammar}
+use Rattle.sheet.specs.Table.{lengthOf, nodesOf, rulesOf, rootOf, formula, kindOf, aOf, bOf, nodeOf, grammarOf}
+use Rattle.sheet.specs.Check.{READ, COUNT, LENGTH, ROOT, KIND, FIELD, verdict, firstFault, rootFault, fieldsFit, faultOf, nodeFault, checkOf}
+
+-- S <- S '+' D / D; D <- [0-9].
+abbrev pub tableA : List ℕ
+tableA =
+    1 ∷ 0 ∷ 46 ∷ 0 ∷ 7 ∷ 0 ∷ 2 ∷ 0 ∷ 5 ∷ 0 ∷ 6
+    ∷ 2 ∷ 0 ∷ 0 ∷ 0 ∷ 0
+    ∷ 1 ∷ 0 ∷ 43 ∷ 0 ∷ 43
+    ∷ 2 ∷ 0 ∷ 1 ∷ 0 ∷ 0
+    ∷ 3 ∷ 0 ∷ 1 ∷ 0 ∷ 2
+    ∷ 3 ∷ 0 ∷ 0 ∷ 0 ∷ 3
+    ∷ 4 ∷ 0 ∷ 4 ∷ 0 ∷ 2
+    ∷ 1 ∷ 0 ∷ 48 ∷ 0 ∷ 57 ∷ []
+
+abbrev pub sheetA : Grammar
+sheetA =
+    record {
+      nodes = rule 0 ∷ range 43 43 ∷ rule 1 ∷ seq 1 2 ∷ seq 0 3 ∷ choice 4 2 ∷ range 48 57 ∷ [];
+      roots = 5 ∷ 6 ∷ [];
+    }
+
+-- N <- D ',' D / D; D <- [0-9].
+abbrev pub tableB : List ℕ
+tableB =
+    1 ∷ 0 ∷ 41 ∷ 0 ∷ 6 ∷ 0 ∷ 2 ∷ 0 ∷ 4 ∷ 0 ∷ 5
+    ∷ 2 ∷ 0 ∷ 1 ∷ 0 ∷ 0
+    ∷ 1 ∷ 0 ∷ 44 ∷ 0 ∷ 44
+    ∷ 3 ∷ 0 ∷ 1 ∷ 0 ∷ 0
+    ∷ 3 ∷ 0 ∷ 0 ∷ 0 ∷ 2
+    ∷ 4 ∷ 0 ∷ 3 ∷ 0 ∷ 0
+    ∷ 1 ∷ 0 ∷ 48 ∷ 0 ∷ 57 ∷ []
+
+abbrev pub sheetB : Grammar
+sheetB =
+    record {
+      nodes = rule 1 ∷ range 44 44 ∷ seq 1 0 ∷ seq 0 2 ∷ choice 3 0 ∷ range 48 57 ∷ [];
+      roots = 4 ∷ 5 ∷ [];
+    }
+
+pub sheets : (checkOf tableA ≡ verdict READ 0) × (grammarOf tableA ≡ sheetA) × (checkOf tableB ≡ verdict READ 0) × (grammarOf tableB ≡ sheetB)
+unfolding checkOf firstFault rootFault nodeFault faultOf fieldsFit grammarOf nodeOf kindOf aOf bOf rootOf lengthOf nodesOf rulesOf formula
+sheets = (refl, refl, refl, refl)
+
+-- Of two faults the one that 01 tests first: a count before a length, a root before a node, a field of node 0 before the kind of node 1.
+pub first-of-two :
+    (checkOf (1 ∷ 0 ∷ 9 ∷ 0 ∷ 0 ∷ 0 ∷ 1 ∷ []) ≡ verdict COUNT 0)
+    × (checkOf (1 ∷ 0 ∷ 15 ∷ 0 ∷ 1 ∷ 0 ∷ 1 ∷ 0 ∷ 0 ∷ 0 ∷ 0 ∷ 0 ∷ 0 ∷ 0 ∷ []) ≡ verdict LENGTH 0)
+    × (checkOf (1 ∷ 0 ∷ 14 ∷ 0 ∷ 1 ∷ 0 ∷ 1 ∷ 0 ∷ 1 ∷ 9 ∷ 0 ∷ 0 ∷ 0 ∷ 0 ∷ []) ≡ verdict ROOT 0)
+    × (checkOf (1 ∷ 0 ∷ 19 ∷ 0 ∷ 2 ∷ 0 ∷ 1 ∷ 0 ∷ 1 ∷ 0 ∷ 0 ∷ 1 ∷ 0 ∷ 0 ∷ 9 ∷ 0 ∷ 0 ∷ 0 ∷ 0 ∷ []) ≡ verdict FIELD 0)
+    × (checkOf (1 ∷ 0 ∷ 19 ∷ 0 ∷ 2 ∷ 0 ∷ 1 ∷ 0 ∷ 1 ∷ 0 ∷ 0 ∷ 0 ∷ 0 ∷ 0 ∷ 9 ∷ 0 ∷ 0 ∷ 0 ∷ 9 ∷ []) ≡ verdict KIND 1)
+unfolding checkOf firstFault rootFault nodeFault faultOf fieldsFit kindOf aOf bOf rootOf lengthOf nodesOf rulesOf formula
+first-of-two = (refl, refl, refl, refl, refl)

@@ -1,0 +1,23 @@
+-- `root` meets its contract.
+use native.Mathlib.Omega.{arith}
+use Rattle.sheet.specs.Table.{rootOf, formula}
+use Rattle.sheet.proofs.Accepting.{well-formed}
+use Rattle.sheet.proofs.root.Statement.{statement}
+use Rattle.sheet.proofs.root.Tie as tie
+
+mul-pair : tie.Need-mul-pair
+mul-pair c = let w = well-formed _ (c .before .pre .0) in omega arith
+
+add-pair : tie.Need-add-pair
+add-pair c = let w = well-formed _ (c .before .pre .0) in omega arith
+
+pair-requires : tie.Need-pair-requires
+unfolding formula
+pair-requires c κs = let w = well-formed _ (c .before .pre .0) in omega arith
+
+returns : tie.Need-returns
+unfolding rootOf
+returns c = let w = well-formed _ (c .before .before .pre .0) in (c .pair .ensures .0, omega (arith, c .pair .ensures .0, w .roots _ (c .before .before .pre .1)))
+
+pub root-spec : {M : Type 1} → statement M
+root-spec = tie.close (tie.spec mul-pair add-pair pair-requires returns)

@@ -1,0 +1,11 @@
+pub mod Sets
+pub mod Bytes
+pub mod Goes
+pub mod Judged
+pub mod Nested
+pub mod Records
+pub mod Written
+pub mod ReadBack
+pub mod Taking
+pub mod OneTree
+pub mod Worked

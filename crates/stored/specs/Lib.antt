@@ -1,0 +1,5 @@
+pub mod Stored
+pub mod WellFormed
+pub mod Nested
+pub mod ReadBack
+pub mod Scratch

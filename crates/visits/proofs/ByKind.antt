@@ -1,0 +1,130 @@
+-- One node's application, kind by kind, and a use by whether answers are kept.
+use mathlib.Core.Path.{_≡_, refl, sym, subst, ap, _∙_}
+use mathlib.Core.Logic.{_≢_}
+use mathlib.Core.Bool.{Bool, true, false}
+use mathlib.Core.List.{List}
+use Prim.Native.Nat.{ℕ, zero, suc, _+_, _*_, _<_, _≤_}
+use native.Mathlib.Omega.{arith}
+use lib.ListN.{length}
+use lib.Dec.{ltb}
+use borrow.Author.Tests.{lt-ltb, le-ltb}
+use Rattle.meaning.specs.Grammar.{fits, rootOf, Note}
+use Rattle.meaning.specs.Reading.{State, Run, Visit, byte, after, second, otherwise, denied, repeated, wrapped, apply, useRule}
+use Rattle.sheet.specs.Table.{decode}
+use Rattle.visits.specs.declared.Visited.{Visited}
+use Rattle.visits.specs.Given.{kindIn, aIn, bIn, rootIn, nodesIn, rulesIn, keepsIn, allowanceIn, grammarIn, Fit}
+use Rattle.visits.specs.Words.{Words}
+use Rattle.visits.specs.Says.{FAILED, Came, reading, uses, grows, applies, endOf}
+use Rattle.visits.proofs.Steps.{came-as}
+use Rattle.visits.proofs.Nodes.{result, match-still}
+use Rattle.visits.proofs.Enter.{range-in, range-out}
+use Rattle.visits.proofs.Ready.{root-is, node-as, below-as, applied-as, rules-are}
+
+module _ (given line : List ℕ) (fit : Fit given line) where
+  -- One byte in a range, where its end is known.
+  pub range-came : {w : List ℕ} {live made top : ℕ} (lo hi x end : ℕ) → Words given line w live top → made ≤ allowanceIn given → end ≡ endOf (byte x (fits line lo hi x))
+      → Came given line w w live made top (result end 0 top made) (λ l s. Run.done (byte x (fits line lo hi x)) s)
+  unfolding endOf byte
+  range-came {w} {live} {made} {top} lo hi x end words le e = by-test (fits line lo hi x) refl
+    where
+      by-test : (t : Bool) → fits line lo hi x ≡ t → Came given line w w live made top (result end 0 top made) (λ l s. Run.done (byte x (fits line lo hi x)) s)
+      by-test true q =
+          let f : end ≡ x + 1 = e ∙ ap (λ b. endOf (byte x b)) q ∙ (let z : suc x ≡ x + 1 = omega arith in z) in
+          rw f (range-in given line fit lo hi x words le q)
+      by-test false q =
+          let f : end ≡ FAILED = e ∙ ap (λ b. endOf (byte x b)) q in
+          rw f (range-out given line fit lo hi x words le q)
+
+  module _ {w w′ : List ℕ} {live made top : ℕ} {r : Visited} (left i pos : ℕ) (li : i < nodesIn given) where
+    pub apply-rule : kindIn given i ≡ 2 → (a : ℕ) → a ≡ aIn given i → Came given line w w′ live made top r (λ l s. uses given line left l a pos s) → Came given line w w′ live made top r (λ l s. applies given line left l i pos s)
+    unfolding apply
+    apply-rule k a e c = applied-as given line fit i 2 li k left pos (rw e at c)
+
+    pub apply-sequence : kindIn given i ≡ 3 → (a b : ℕ) → a ≡ aIn given i → b ≡ bIn given i → Came given line w w′ live made top r (λ l s. after (reading given line left l a pos s) (second (reading given line left l) b))
+        → Came given line w w′ live made top r (λ l s. applies given line left l i pos s)
+    unfolding apply
+    apply-sequence k a b e f c = applied-as given line fit i 3 li k left pos (rw (e, f) at c)
+
+    pub apply-choice : kindIn given i ≡ 4 → (a b : ℕ) → a ≡ aIn given i → b ≡ bIn given i → Came given line w w′ live made top r (λ l s. after (reading given line left l a pos s) (otherwise (reading given line left l) b pos))
+        → Came given line w w′ live made top r (λ l s. applies given line left l i pos s)
+    unfolding apply
+    apply-choice k a b e f c = applied-as given line fit i 4 li k left pos (rw (e, f) at c)
+
+    pub apply-not : kindIn given i ≡ 5 → (a : ℕ) → a ≡ aIn given i → Came given line w w′ live made top r (λ l s. after (reading given line left l a pos s) (denied pos))
+        → Came given line w w′ live made top r (λ l s. applies given line left l i pos s)
+    unfolding apply
+    apply-not k a e c = applied-as given line fit i 5 li k left pos (rw e at c)
+
+    pub apply-repetition : kindIn given i ≡ 6 → (a : ℕ) → a ≡ aIn given i → Came given line w w′ live made top r (λ l s. after (reading given line left l a pos s) (repeated (reading given line left l) i pos))
+        → Came given line w w′ live made top r (λ l s. applies given line left l i pos s)
+    unfolding apply
+    apply-repetition k a e c = applied-as given line fit i 6 li k left pos (rw e at c)
+
+  module _ {w : List ℕ} {live made top : ℕ} (left i pos : ℕ) (li : i < nodesIn given) (words : Words given line w live top) (le : made ≤ allowanceIn given) where
+    pub apply-empty : kindIn given i ≡ 0 → pos ≤ length line → Came given line w w live made top (result pos 0 top made) (λ l s. applies given line left l i pos s)
+    unfolding apply
+    apply-empty k inside = applied-as given line fit i 0 li k left pos (match-still given line fit words le pos inside)
+
+    -- A kind above 6 is in no accepted table; it would be an empty node.
+    pub apply-above : (n : ℕ) → kindIn given i ≡ 7 + n → pos ≤ length line → Came given line w w live made top (result pos 0 top made) (λ l s. applies given line left l i pos s)
+    unfolding apply
+    apply-above n k inside =
+        let e : kindIn given i ≡ suc (suc (suc (suc (suc (suc (suc n)))))) = k ∙ (let z : 7 + n ≡ suc (suc (suc (suc (suc (suc (suc n)))))) = omega arith in z) in
+        applied-as given line fit i _ li e left pos (match-still given line fit words le pos inside)
+
+    pub apply-range : kindIn given i ≡ 1 → (lo hi end : ℕ) → lo ≡ aIn given i → hi ≡ bIn given i → end ≡ endOf (byte pos (fits line lo hi pos))
+        → Came given line w w live made top (result end 0 top made) (λ l s. applies given line left l i pos s)
+    unfolding apply
+    apply-range k lo hi end el eh e =
+        let c = range-came lo hi pos end words le e in
+        applied-as given line fit i 1 li k left pos (rw (el, eh) at c)
+
+  -- A use where answers are kept, and where they aren't.
+  module _ {w w′ : List ℕ} {live made top : ℕ} {r : Visited} (left a pos : ℕ) where
+    pub uses-free : keepsIn given ≡ true → (root : ℕ) → a < rulesIn given → root ≡ rootIn given a → Came given line w w′ live made top r (λ l s. after (reading given line left l root pos s) (wrapped a pos))
+        → Came given line w w′ live made top r (λ l s. uses given line left l a pos s)
+    unfolding useRule
+    uses-free k root la e c =
+        came-as given line (fit .short) (λ l s. uses given line left l a pos s) c
+        (λ l s. ap (λ j. after (reading given line left l j pos s) (wrapped a pos)) (e ∙ root-is given line fit a la)
+        ∙ ap (λ b. useRule (grammarIn given) line b (reading given line left) l a pos s) (sym k))
+
+    pub uses-grows : keepsIn given ≡ false → Came given line w w′ live made top r (λ l s. grows given line left l a pos s) → Came given line w w′ live made top r (λ l s. uses given line left l a pos s)
+    uses-grows k c =
+        came-as given line (fit .short) (λ l s. uses given line left l a pos s) c
+        (λ l s. ap (λ b. useRule (grammarIn given) line b (reading given line left) l a pos s) (sym k))
+
+  -- The children of a node, and the rule that it uses.
+  module _ (i : ℕ) (li : i < nodesIn given) where
+    pub rule-used : kindIn given i ≡ 2 → aIn given i < rulesIn given
+    rule-used k = let b = below-as given line fit i 2 li k in let n = rules-are given line fit in omega arith
+
+    pub sequence-children : kindIn given i ≡ 3 → (aIn given i < nodesIn given) × (bIn given i < nodesIn given)
+    sequence-children k = let b = below-as given line fit i 3 li k in (omega arith, omega arith)
+
+    pub choice-children : kindIn given i ≡ 4 → (aIn given i < nodesIn given) × (bIn given i < nodesIn given)
+    choice-children k = let b = below-as given line fit i 4 li k in (omega arith, omega arith)
+
+    pub not-child : kindIn given i ≡ 5 → aIn given i < nodesIn given
+    not-child k = let b = below-as given line fit i 5 li k in omega arith
+
+    pub repetition-child : kindIn given i ≡ 6 → aIn given i < nodesIn given
+    repetition-child k = let b = below-as given line fit i 6 li k in omega arith
+
+-- Whether answers are kept, by the number that says so.
+pub keeps-yes : (x : ℕ) → x ≢ 0 → ltb 0 x ≡ true
+keeps-yes x n = lt-ltb 0 x (omega arith)
+
+pub keeps-no : (x : ℕ) → x ≡ 0 → ltb 0 x ≡ false
+keeps-no x e = le-ltb 0 x (omega arith)
+
+-- A kind that is none of 0 to 6 is above them.
+pub above-six : (k : ℕ) → k ≢ 0 → k ≢ 1 → k ≢ 2 → k ≢ 3 → k ≢ 4 → k ≢ 5 → k ≢ 6 → (n : ℕ) × (k ≡ 7 + n)
+above-six zero n0 n1 n2 n3 n4 n5 n6 = absurd (n0 refl)
+above-six (suc zero) n0 n1 n2 n3 n4 n5 n6 = absurd (n1 refl)
+above-six (suc (suc zero)) n0 n1 n2 n3 n4 n5 n6 = absurd (n2 refl)
+above-six (suc (suc (suc zero))) n0 n1 n2 n3 n4 n5 n6 = absurd (n3 refl)
+above-six (suc (suc (suc (suc zero)))) n0 n1 n2 n3 n4 n5 n6 = absurd (n4 refl)
+above-six (suc (suc (suc (suc (suc zero))))) n0 n1 n2 n3 n4 n5 n6 = absurd (n5 refl)
+above-six (suc (suc (suc (suc (suc (suc zero)))))) n0 n1 n2 n3 n4 n5 n6 = absurd (n6 refl)
+above-six (suc (suc (suc (suc (suc (suc (suc k))))))) n0 n1 n2 n3 n4 n5 n6 = (k, omega arith)

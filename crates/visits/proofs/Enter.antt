@@ -1,0 +1,116 @@
+-- A visit before its work: EFFORT, DEEP, or one visit more that is counted and open.
+use mathlib.Core.Path.{_≡_, refl, sym, ap, _∙_}
+use mathlib.Core.Bool.{Bool, true, false, and-eq-true-iff}
+use mathlib.Core.List.{List}
+use Prim.Native.Nat.{ℕ, zero, suc, _+_, _*_, _<_, _≤_}
+use native.Mathlib.Omega.{arith}
+use lib.ListN.{length, getD}
+use lib.Dec.{ltb, leb}
+use borrow.Author.Tests.{ltb-true, lt-ltb, le-ltb, le-leb, lt-leb}
+use native.Mathlib.Numerals.{add-one}
+use Rattle.meaning.specs.Grammar.{Answer, fail, ok, fits, Note, Grammar}
+use Rattle.meaning.specs.Reading.{State, Run, effort, deep, done, Visit, byte, counted, visited, visit}
+use Rattle.visits.specs.declared.Visited.{Visited}
+use Rattle.visits.specs.Given.{allowanceIn, keepsIn, grammarIn, Fit}
+use Rattle.visits.specs.Words.{Stands, Words}
+use Rattle.visits.specs.Says.{FAILED, STOPPED, endOf, Says, Came}
+use Rattle.visits.proofs.Steps.{came-as, still}
+use Rattle.visits.proofs.Nodes.{result, match-still, fail-still}
+
+-- The state after one visit more.
+abbrev spent : ℕ → State → State
+spent n s = record { left = n; kept = s .kept }
+
+module _ (g : Grammar) (line : List ℕ) (free : Bool) (l : List Note) (i x : ℕ) (s : State) where
+  pub visit-none-left : (d : ℕ) → s .left ≡ 0 → visit g line free d l i x s ≡ effort x s
+  unfolding visit counted
+  visit-none-left zero e = ap (λ n. counted n x s (λ t. deep x s)) e
+  visit-none-left (suc d) e = ap (λ n. counted n x s (visited g line free (visit g line free d) l i x)) e
+
+  visit-deep-at : (n : ℕ) → s .left ≡ suc n → visit g line free zero l i x s ≡ deep x s
+  unfolding visit counted
+  visit-deep-at n e = ap (λ m. counted m x s (λ t. deep x s)) e
+
+  visit-open-at : (d n : ℕ) → s .left ≡ suc n → visit g line free (suc d) l i x s ≡ visited g line free (visit g line free d) l i x (spent n s)
+  unfolding visit counted
+  visit-open-at d n e = ap (λ m. counted m x s (visited g line free (visit g line free d) l i x)) e
+
+-- A number above 0 follows another.
+follows : (n : ℕ) → 0 < n → (m : ℕ) × (n ≡ suc m)
+follows zero h = absurd (omega arith)
+follows (suc n) h = (n, refl)
+
+module _ (given line : List ℕ) (fit : Fit given line) where
+  abbrev reading : ℕ → List Note → Visit
+  reading d = visit (grammarIn given) line (keepsIn given) d
+
+  module _ {w : List ℕ} {live made top : ℕ} (left i x : ℕ) (words : Words given line w live top) (le : made ≤ allowanceIn given) where
+    pub enter-effort : allowanceIn given ≤ made → Came given line w w live made top (result STOPPED (11 * 4096 + x) top made) (λ l s. reading left l i x s)
+    enter-effort h =
+        still given line (fit .short) STOPPED (11 * 4096 + x) _ words le (omega arith) (λ z. absurd (omega arith)) (λ z. absurd (omega arith))
+        (λ l s st. let e = st .left in rw (visit-none-left (grammarIn given) line (keepsIn given) l i x s left (omega arith)) (record { end = refl; list = refl; left = st .left }))
+
+    pub enter-deep : made < allowanceIn given → left ≡ 0 → Came given line w w live made top (result STOPPED (12 * 4096 + x) top made) (λ l s. reading left l i x s)
+    enter-deep h z =
+        still given line (fit .short) STOPPED (12 * 4096 + x) _ words le (omega arith) (λ z. absurd (omega arith)) (λ z. absurd (omega arith))
+        (λ l s st. let e = st .left in
+        let n = follows (s .left) (omega arith) in
+        rw (z, visit-deep-at (grammarIn given) line (keepsIn given) l i x s (n .0) (n .1)) (record { end = refl; list = refl; left = st .left }))
+
+  spend : {w : List ℕ} {live made : ℕ} {l : List Note} {s : State} (n : ℕ) → s .left ≡ suc n → Stands given line w live made l s → Stands given line w live (made + 1) l (spent n s)
+  spend n e h = record { lives = h .lives; left = let z = h .left in omega arith; kept = h .kept }
+
+  pub enter-open : {w w′ : List ℕ} {live made top : ℕ} {r : Visited} (left d i x : ℕ) → left ≡ suc d → made < allowanceIn given
+      → Came given line w w′ live (made + 1) top r (λ l s. visited (grammarIn given) line (keepsIn given) (reading d) l i x s) → Came given line w w′ live made top r (λ l s. reading left l i x s)
+  enter-open {w} {w′} {live} {made} {top} {r} left d i x e lt c =
+      let m = c .made-up in
+      record {
+        same = c .same;
+        words = c .words;
+        end-most = c .end-most;
+        end-in = c .end-in;
+        list-in = c .list-in;
+        top-up = c .top-up;
+        made-up = omega arith;
+        made-in = c .made-in;
+        says = λ l s st.
+            let z = st .left in
+            let n = follows (s .left) (omega arith) in
+            rw (e, visit-open-at (grammarIn given) line (keepsIn given) l i x s d (n .0) (n .1)) (c .says l (spent (n .0) s) (spend (n .0) (n .1) st));
+      }
+
+  -- One byte in a range.
+  fits-inside : (lo hi x : ℕ) → fits line lo hi x ≡ true → x < length line
+  unfolding fits
+  fits-inside lo hi x e = ltb-true x (length line) (and-eq-true-iff _ _ .0 (and-eq-true-iff _ _ .0 e .0) .0)
+
+  pub range-in : {w : List ℕ} {live made top : ℕ} (lo hi x : ℕ) → Words given line w live top → made ≤ allowanceIn given → fits line lo hi x ≡ true
+      → Came given line w w live made top (result (x + 1) 0 top made) (λ l s. done (byte x (fits line lo hi x)) s)
+  unfolding byte
+  range-in lo hi x words le e =
+      let z : x < length line = fits-inside lo hi x e in
+      let f : x + 1 ≡ suc x = omega arith in
+      rw f (came-as given line (fit .short) _ (match-still given line fit words le (suc x) (omega arith)) (λ l s. ap (λ b. done (byte x b) s) (sym e)))
+
+  pub range-out : {w : List ℕ} {live made top : ℕ} (lo hi x : ℕ) → Words given line w live top → made ≤ allowanceIn given → fits line lo hi x ≡ false
+      → Came given line w w live made top (result FAILED 0 top made) (λ l s. done (byte x (fits line lo hi x)) s)
+  unfolding byte
+  range-out lo hi x words le e = came-as given line (fit .short) _ (fail-still given line fit words le) (λ l s. ap (λ b. done (byte x b) s) (sym e))
+
+-- Where a byte in a range ends.
+module _ (line : List ℕ) (lo hi x found : ℕ) (is : found ≡ getD line x 0) where
+  pub range-hit : x < length line → lo ≤ found → found ≤ hi → x + 1 ≡ endOf (byte x (fits line lo hi x))
+  unfolding endOf byte fits
+  range-hit h a b = rw (lt-ltb _ _ h, ← is, le-leb _ _ a, le-leb _ _ b) (add-one x)
+
+  pub range-low : x < length line → found < lo → FAILED ≡ endOf (byte x (fits line lo hi x))
+  unfolding endOf byte fits
+  range-low h a = rw (lt-ltb _ _ h, ← is, lt-leb _ _ a) refl
+
+  pub range-high : x < length line → lo ≤ found → hi < found → FAILED ≡ endOf (byte x (fits line lo hi x))
+  unfolding endOf byte fits
+  range-high h a b = rw (lt-ltb _ _ h, ← is, le-leb _ _ a, lt-leb _ _ b) refl
+
+pub range-past : (line : List ℕ) (lo hi x : ℕ) → length line ≤ x → FAILED ≡ endOf (byte x (fits line lo hi x))
+unfolding endOf byte fits
+range-past line lo hi x h = rw (le-ltb _ _ h) refl

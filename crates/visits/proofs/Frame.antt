@@ -1,0 +1,100 @@
+-- What the words stand for is not changed by a step that leaves them the same where it counts.
+use mathlib.Core.Path.{_≡_, refl, sym, ap, _∙_}
+use mathlib.Core.Logic.{_≢_}
+use mathlib.Core.Bool.{true}
+use mathlib.Core.List.{List, [], _∷_}
+use Prim.Native.Nat.{ℕ, _+_, _*_, _<_, _≤_}
+use native.Mathlib.Nat.{mul-le-mul-right, mul-le-mul}
+use native.Mathlib.Omega.{arith}
+use lib.ListN.{length, getD}
+use Rattle.meaning.specs.Reading.{State}
+use Rattle.meaning.specs.Grammar.{Trees, no-trees, tree, Answer, fail, ok, Note, look}
+use Rattle.cells.specs.Cells.{treesAt}
+use Rattle.cells.proofs.Frame.{trees-same}
+use Rattle.visits.specs.Given.{nodesIn, keepsIn, baseIn, allowanceIn, pairsIn, roomIn, Fit}
+use Rattle.visits.specs.Words.{HeldAs, Entry, Lives, placeIn, keptAs, keptAt, Stands, Words, Same}
+use Rattle.cells.specs.Arena.{Made}
+
+module _ (given line : List ℕ) where
+  pub same-none : (w : List ℕ) (live top : ℕ) → Same given line w w live top
+  same-none w live top = record { uses = λ i h. refl; cells = λ i a b. refl; past = λ i h. refl }
+
+  -- One step after another, of which the second leaves at least as much.
+  pub same-then : {old mid new : List ℕ} {live top live′ top′ : ℕ} → Same given line old mid live top → Same given line mid new live′ top′ → live ≤ live′ → top ≤ top′
+      → Same given line old new live top
+  same-then a b l t = record {
+    uses = λ i h. b .uses i (omega arith) ∙ a .uses i h;
+    cells = λ i p q. b .cells i p (omega arith) ∙ a .cells i p q;
+    past = λ i h. b .past i h ∙ a .past i h;
+  }
+
+  module _ {old new : List ℕ} {live top : ℕ} (same : Same given line old new live top) where
+    pub same-trees : (list : ℕ) → list ≤ top → treesAt new list ≡ treesAt old list
+    same-trees list h = trees-same old new top list (same .cells) h
+
+    held-same : (end list end′ list′ : ℕ) (ts us : Trees) (a x : ℕ) (r : Answer) → end′ ≡ end → list′ ≡ list → us ≡ ts → HeldAs end list ts a x r → HeldAs end′ list′ us a x r
+    held-same end list end′ list′ ts us a x r e f g h = rw (e, f, g) h
+
+    entry-same : (i : ℕ) (n : Note) → i < live → getD old (i * 3 + 2) 0 ≤ top → Entry old i n → Entry new i n
+    entry-same i n lt le h =
+        let list : getD new (i * 3 + 2) 0 ≡ getD old (i * 3 + 2) 0 = same .uses (i * 3 + 2) (omega arith) in
+        record {
+          key = same .uses (i * 3) (omega arith) ∙ h .key;
+          small = h .small;
+          held = held-same _ _ _ _ _ _ (n .number) (n .position) (n .answer) (same .uses (i * 3 + 1) (omega arith)) list (rw list (same-trees (getD old (i * 3 + 2) 0) le)) (h .held);
+        }
+
+    pub lives-same : (k : ℕ) (l : List Note) → k ≤ live → ((i : ℕ) → i < live → getD old (i * 3 + 2) 0 ≤ top) → Lives old k l → Lives new k l
+    lives-same k [] le h v = v
+    lives-same k (n ∷ l) le h v =
+        let e : k ≡ v .0 + 1 = v .1 in
+        (v .0, v .1, entry-same (v .0) n (omega arith) (h (v .0) (omega arith)) (v .2), v .3, lives-same (v .0) l (omega arith) h (v .4))
+
+  -- A pair's number is below the number of pairs.
+  pub pair-in : (i x : ℕ) → i < nodesIn given → x ≤ length line → i * (length line + 1) + x < pairsIn given line
+  pair-in i x li lx = let z : (i + 1) * (length line + 1) ≤ pairsIn given line = mul-le-mul-right (length line + 1) (omega arith) in omega arith
+
+  pub pairs-few : Fit given line → pairsIn given line ≤ 131072
+  pairs-few fit = let l : length line + 1 ≤ 256 = let z = fit .short in omega arith in mul-le-mul (fit .nodes) l
+
+  kept-as : (v v′ : ℕ) (ts us : Trees) → v′ ≡ v → us ≡ ts → keptAs v′ us ≡ keptAs v ts
+  kept-as v v′ ts us e f = rw (e, f)
+
+  module _ {old new : List ℕ} {live top : ℕ} (same : Same given line old new live top) (kept : (i : ℕ) → baseIn given ≤ i → getD new i 0 ≡ getD old i 0) (words : Words given line old live top) where
+    kept-same : keepsIn given ≡ true → (i x : ℕ) → i < nodesIn given → x ≤ length line → keptAt new (placeIn given line i x) ≡ keptAt old (placeIn given line i x)
+    kept-same free i x li lx =
+        let list : getD new (placeIn given line i x + 1) 0 ≡ getD old (placeIn given line i x + 1) 0 = kept _ (omega arith) in
+        let le : getD old (placeIn given line i x + 1) 0 ≤ top = words .kept-lists free (i * (length line + 1) + x) (pair-in i x li lx) in
+        kept-as _ _ _ _ (kept _ (omega arith)) (rw list (same-trees same (getD old (placeIn given line i x + 1) 0) le))
+
+    -- A step that leaves the kept answers too.
+    pub stands-same : {made : ℕ} {l : List Note} {s : State} → Stands given line old live made l s → Stands given line new live made l s
+    stands-same {made} {l} {s} h = record {
+      lives = lives-same same live l (omega arith) (words .held-lists) (h .lives);
+      left = h .left;
+      kept = λ free i x li lx. h .kept free i x li lx ∙ sym (kept-same free i x li lx);
+    }
+
+  pub made-kept : {old new : List ℕ} {top list top′ : ℕ} {ts : Trees} → Fit given line → top < allowanceIn given → Made old new top list top′ ts → (i : ℕ) → baseIn given ≤ i → getD new i 0 ≡ getD old i 0
+  made-kept fit low made i h = let one = made .one in let b = fit .base in made .above i (omega arith)
+
+  -- A list was made.
+  module _ {old new : List ℕ} {live top list top′ : ℕ} {ts : Trees} (fit : Fit given line) (few : live * 3 ≤ 2046) (low : top < allowanceIn given) (made : Made old new top list top′ ts) where
+    pub made-same : Same given line old new live top
+    made-same =
+        let one = made .one in
+        record { uses = λ i h. made .below i (omega arith); cells = λ i a b. made .below i b; past = λ i h. made .above i (omega arith) }
+
+    pub made-words : Words given line old live top → Words given line new live top′
+    made-words h =
+        let one = made .one in
+        let rise = made .rise in
+        let b = fit .base in
+        record {
+          room = let l = made .long in let z = h .room in omega arith;
+          arena = made .arena;
+          held-lists = λ i lt. omega (arith, made-same .uses (i * 3 + 2) (omega arith), h .held-lists i lt);
+          held-ends = λ i lt. omega (arith, made-same .uses (i * 3 + 1) (omega arith), h .held-ends i lt);
+          kept-lists = λ free j lt. omega (arith, made-kept fit low made (baseIn given + j * 2 + 1) (omega arith), h .kept-lists free j lt);
+          kept-ends = λ free j lt. omega (arith, made-kept fit low made (baseIn given + j * 2) (omega arith), h .kept-ends free j lt);
+        }

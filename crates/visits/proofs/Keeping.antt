@@ -1,0 +1,252 @@
+-- Kept answers: a pair that has one gives it, and a finished pair gets one.
+use mathlib.Core.Path.{_≡_, refl, sym, subst, ap, _∙_}
+use mathlib.Core.Logic.{_≢_, _⊎_, inl, inr}
+use mathlib.Core.Bool.{Bool, true, false}
+use mathlib.Core.List.{List, [], _∷_}
+use mathlib.Core.Option.{Option, none, some}
+use Prim.Native.Nat.{ℕ, zero, suc, _+_, _*_, _-_, _<_, _≤_}
+use native.Mathlib.Nat.{mul-le-mul-right}
+use native.Mathlib.Omega.{arith}
+use lib.ListN.{length, getD, set, length-set}
+use lib.Seq.{getD-set-same, getD-set-other, sets, length-sets}
+use lib.Dec.{eqb}
+use borrow.Author.Tests.{eqb-true, eqb-false}
+use Rattle.meaning.specs.Grammar.{Trees, Answer, fail, ok, Note, noted, look, node}
+use Rattle.meaning.specs.Reading.{State, Run, done, after, Visit, apply, keep, useRule, recall, visited}
+use Rattle.meaning.proofs.Notes.{look-same, look-other}
+use Rattle.cells.specs.Cells.{treesAt}
+use Rattle.cells.proofs.Frame.{arena-same}
+use Rattle.visits.specs.declared.Visited.{Visited}
+use Rattle.visits.specs.Given.{nodesIn, keepsIn, baseIn, allowanceIn, pairsIn, roomIn, grammarIn, Fit}
+use Rattle.visits.specs.Words.{placeIn, keptAs, keptAt, Stands, Words, Same}
+use Rattle.visits.specs.Says.{FAILED, STOPPED, Says, Came}
+use Rattle.visits.proofs.Frame.{pair-in, same-trees, lives-same, same-none}
+use Rattle.visits.proofs.Steps.{then-match, then-fail, stopped, came-as, came-when, still}
+use Rattle.visits.proofs.Nodes.{result}
+
+-- Two words written one after the other.
+abbrev pub pairPut : List ℕ → ℕ → ℕ → ℕ → List ℕ
+pairPut w p a b = sets w p (a ∷ b ∷ [])
+
+module _ (w : List ℕ) (p a b : ℕ) where
+  pub put-other : (i : ℕ) → i ≢ p → i ≢ p + 1 → getD (pairPut w p a b) i 0 ≡ getD w i 0
+  put-other i h k = getD-set-other (set w p a) (suc p) i b 0 (omega arith) ∙ getD-set-other w p i a 0 h
+
+  pub put-first : p < length w → getD (pairPut w p a b) p 0 ≡ a
+  put-first h = getD-set-other (set w p a) (suc p) p b 0 (omega arith) ∙ getD-set-same w p a 0 h
+
+  pub put-second : p + 1 < length w → getD (pairPut w p a b) (p + 1) 0 ≡ b
+  put-second h =
+      let e : p + 1 ≡ suc p = omega arith in
+      rw e (getD-set-same (set w p a) (suc p) b 0 (omega (arith, length-set w p a)))
+
+-- Two numbers are the same or not.
+pub by-same : {P : Type 0} (i j : ℕ) → (i ≡ j → P) → (i ≢ j → P) → P
+by-same {P} i j f g = by-test (eqb i j) refl
+  where
+    by-test : (t : Bool) → eqb i j ≡ t → P
+    by-test true e = f (eqb-true i j e)
+    by-test false e = g (eqb-false i j e)
+
+module _ (given line : List ℕ) where
+  abbrev pair : ℕ → ℕ → ℕ
+  pair i x = i * (length line + 1) + x
+
+  less-pair : (i x j y : ℕ) → x ≤ length line → i < j → pair i x < pair j y
+  less-pair i x j y lx lt = let z : (i + 1) * (length line + 1) ≤ j * (length line + 1) = mul-le-mul-right (length line + 1) (omega arith) in omega arith
+
+  -- Two pairs with one number are one pair.
+  same-node : (i x j y : ℕ) → x ≤ length line → y ≤ length line → pair i x ≡ pair j y → i ≡ j
+  same-node i x j y lx ly e = apart (λ lt. let z = less-pair i x j y lx lt in absurd (omega arith)) (λ lt. let z = less-pair j y i x ly lt in absurd (omega arith))
+    where
+      apart : (i < j → ⊥) → (j < i → ⊥) → i ≡ j
+      apart f h = by-same i j (λ q. q) (λ q. absurd (split q f h))
+        where
+          split : i ≢ j → (i < j → ⊥) → (j < i → ⊥) → ⊥
+          split q f h = let p : ¬ (i < j) = f in let r : ¬ (j < i) = h in omega arith
+
+  same-position : (i x j y : ℕ) → pair i x ≡ pair j y → i ≡ j → x ≡ y
+  same-position i x j y e q = let z : i * (length line + 1) ≡ j * (length line + 1) = ap (λ n. n * (length line + 1)) q in omega arith
+
+  module _ (fit : Fit given line) {w : List ℕ} {live top : ℕ} (words : Words given line w live top) (free : keepsIn given ≡ true) (few : live * 3 ≤ 2046) (low : top ≤ allowanceIn given)
+      (i x : ℕ) (li : i < nodesIn given) (lx : x ≤ length line) where
+    abbrev place : ℕ
+    place = placeIn given line i x
+
+    in-room : place + 1 < length w
+    in-room = let z = pair-in given line i x li lx in let b = fit .base in let r = words .room in omega arith
+
+    module _ (word list : ℕ) (ends : word ≤ length line + 2) (lists : list ≤ top) where
+      abbrev new : List ℕ
+      new = pairPut w place word list
+
+      pub keep-same : Same given line w new live top
+      keep-same =
+          let b = fit .base in
+          let z = pair-in given line i x li lx in
+          record {
+            uses = λ j h. put-other w place word list j (omega arith) (omega arith);
+            cells = λ j p q. put-other w place word list j (omega arith) (omega arith);
+            past = λ j h. put-other w place word list j (omega arith) (omega arith);
+          }
+
+      kept-list : (j : ℕ) → j < pairsIn given line → getD new (baseIn given + j * 2 + 1) 0 ≤ top
+      kept-list j lt = by-same j (pair i x)
+          (λ e. let f : getD new (baseIn given + j * 2 + 1) 0 ≡ list = ap (λ k. getD new (baseIn given + k * 2 + 1) 0) e ∙ put-second w place word list in-room in omega arith)
+          (λ n. omega (arith, put-other w place word list (baseIn given + j * 2 + 1) (omega arith) (omega arith), words .kept-lists free j lt))
+
+      kept-end : (j : ℕ) → j < pairsIn given line → getD new (baseIn given + j * 2) 0 ≤ length line + 2
+      kept-end j lt = by-same j (pair i x)
+          (λ e. let r = in-room in let f : getD new (baseIn given + j * 2) 0 ≡ word = ap (λ k. getD new (baseIn given + k * 2) 0) e ∙ put-first w place word list (omega arith) in omega arith)
+          (λ n. omega (arith, put-other w place word list (baseIn given + j * 2) (omega arith) (omega arith), words .kept-ends free j lt))
+
+      pub keep-words : Words given line new live top
+      keep-words = record {
+        room = omega (arith, words .room, length-sets w place (word ∷ list ∷ []));
+        arena = arena-same w new top (keep-same .cells) (length-sets w place (word ∷ list ∷ [])) (words .arena);
+        held-lists = λ j lt. omega (arith, keep-same .uses (j * 3 + 2) (omega arith), words .held-lists j lt);
+        held-ends = λ j lt. omega (arith, keep-same .uses (j * 3 + 1) (omega arith), words .held-ends j lt);
+        kept-lists = λ f j lt. kept-list j lt;
+        kept-ends = λ f j lt. kept-end j lt;
+      }
+
+      module _ {made : ℕ} (q : Answer) (is : keptAs word (treesAt w list) ≡ some q) (l : List Note) (s : State) (h : Stands given line w live made l s) where
+        here : keptAt new place ≡ some q
+        here =
+            let r = in-room in
+            let a : getD new place 0 ≡ word = put-first w place word list (omega arith) in
+            let b : getD new (place + 1) 0 ≡ list = put-second w place word list in-room in
+            let t : treesAt new list ≡ treesAt w list = same-trees given line keep-same list lists in
+            rw (a, b, t) is
+
+        there : (j y : ℕ) → j < nodesIn given → y ≤ length line → pair j y ≢ pair i x → keptAt new (placeIn given line j y) ≡ keptAt w (placeIn given line j y)
+        there j y lj ly n =
+            let a : getD new (placeIn given line j y) 0 ≡ getD w (placeIn given line j y) 0 = put-other w place word list _ (omega arith) (omega arith) in
+            let b : getD new (placeIn given line j y + 1) 0 ≡ getD w (placeIn given line j y + 1) 0 = put-other w place word list _ (omega arith) (omega arith) in
+            let t : treesAt new (getD w (placeIn given line j y + 1) 0) ≡ treesAt w (getD w (placeIn given line j y + 1) 0) =
+            same-trees given line keep-same _ (words .kept-lists free (pair j y) (pair-in given line j y lj ly)) in
+            rw (a, b, t) refl
+
+        differs : (j y : ℕ) → pair j y ≢ pair i x → (j ≢ i) ⊎ (y ≢ x)
+        differs j y n = by-same j i (λ e. inr (λ f. n (ap (λ k. k * (length line + 1) + y) e ∙ ap (λ k. i * (length line + 1) + k) f))) (λ e. inl e)
+
+        kept-now : (j y : ℕ) → j < nodesIn given → y ≤ length line → look (noted i x q (s .kept)) j y ≡ keptAt new (placeIn given line j y)
+        kept-now j y lj ly = by-same (pair j y) (pair i x)
+            (λ e.
+            let f : j ≡ i = same-node j y i x ly lx e in
+            let k : y ≡ x = same-position j y i x e f in
+            rw (f, k) (look-same (s .kept) i x q ∙ sym here))
+            (λ n. look-other (s .kept) i x q j y (differs j y n) ∙ h .kept free j y lj ly ∙ sym (there j y lj ly n))
+
+        pub keep-stands : Stands given line new live made l (record { left = s .left; kept = noted i x q (s .kept) })
+        keep-stands = record {
+          lives = lives-same given line keep-same live l (omega arith) (words .held-lists) (h .lives);
+          left = h .left;
+          kept = λ f j y lj ly. kept-now j y lj ly;
+        }
+
+      -- The finished pair is kept.
+      keep-came : {made : ℕ} (end : ℕ) (m : List Note → State → Run) → made ≤ allowanceIn given → end ≤ FAILED → (end < STOPPED → end ≤ length line)
+          → ((l : List Note) (s : State) → Stands given line w live made l s → Says given line new live l (result end list top made) (m l s)) → Came given line w new live made top (result end list top made) m
+      keep-came end m le most e f = record {
+        same = keep-same;
+        words = keep-words;
+        end-most = most;
+        end-in = e;
+        list-in = λ z. lists;
+        top-up = omega arith;
+        made-up = omega arith;
+        made-in = le;
+        says = f;
+      }
+
+  module _ (fit : Fit given line) (v : List Note → Visit) (i x : ℕ) (li : i < nodesIn given) (lx : x ≤ length line) where
+    abbrev working : Bool → List Note → State → Run
+    working keeps l s = apply line (v l) (useRule (grammarIn given) line keeps v l) i x s (node (grammarIn given) i)
+
+    abbrev visiting : List Note → State → Run
+    visiting l s = visited (grammarIn given) line (keepsIn given) v l i x s
+
+    -- Nothing is kept.
+    pub visited-plain : {w w′ : List ℕ} {live made top : ℕ} {r : Visited} → keepsIn given ≡ false → Came given line w w′ live made top r (working (keepsIn given)) → Came given line w w′ live made top r visiting
+    unfolding visited
+    visited-plain e c = came-as given line (fit .short) visiting c (λ l s. ap (λ b. working b l s) e ∙ ap (λ b. visited (grammarIn given) line b v l i x s) (sym e))
+
+    recalled : {w : List ℕ} {live made : ℕ} (free : keepsIn given ≡ true) (l : List Note) (s : State) (q : Option Answer) → Stands given line w live made l s → keptAt w (placeIn given line i x) ≡ q
+        → recall (grammarIn given) line v l i x s q ≡ visiting l s
+    unfolding visited
+    recalled free l s q h e =
+        ap (recall (grammarIn given) line v l i x s) (sym e ∙ sym (h .kept free i x li lx)) ∙ ap (λ b. visited (grammarIn given) line b v l i x s) (sym free)
+
+    module _ {w : List ℕ} {live made top : ℕ} (words : Words given line w live top) (free : keepsIn given ≡ true) (le : made ≤ allowanceIn given) where
+      -- A failure is kept, or a match is.
+      pub visited-fail : getD w (placeIn given line i x) 0 ≡ 1 → Came given line w w live made top (result FAILED 0 top made) visiting
+      unfolding recall keptAs
+      visited-fail e =
+          still given line (fit .short) FAILED 0 visiting words le (omega arith) (λ z. absurd (omega arith)) (λ z. omega arith)
+          (λ l s h. subst (Says given line w live l (result FAILED 0 top made)) (recalled free l s (some fail) h (rw e refl)) (record { end = refl; stands = h }))
+
+      pub visited-match : (e : ℕ) → getD w (placeIn given line i x) 0 ≡ suc (suc e) → Came given line w w live made top (result e (getD w (placeIn given line i x + 1) 0) top made) visiting
+      unfolding recall keptAs
+      visited-match e q =
+          let le₁ : getD w (placeIn given line i x + 1) 0 ≤ top = words .kept-lists free _ (pair-in given line i x li lx) in
+          let le₂ : getD w (placeIn given line i x) 0 ≤ length line + 2 = words .kept-ends free _ (pair-in given line i x li lx) in
+          let inside : e ≤ length line = omega arith in
+          let sh = fit .short in
+          still given line (fit .short) e (getD w (placeIn given line i x + 1) 0) visiting words le (omega arith) (λ z. inside) (λ z. le₁)
+          (λ l s h. subst (Says given line w live l (result e (getD w (placeIn given line i x + 1) 0) top made)) (recalled free l s (some (ok e (treesAt w (getD w (placeIn given line i x + 1) 0)))) h (rw q refl))
+          (refl, record { end = refl; inside = inside; stands = h }))
+
+      module _ (none-kept : getD w (placeIn given line i x) 0 ≡ 0) {w′ : List ℕ} {r : Visited} (c : Came given line w w′ live made top r (working (keepsIn given))) where
+        from-new : {w″ : List ℕ} {b : Visited} → Came given line w w″ live made top b (λ l s. after (working (keepsIn given) l s) (keep i x)) → Came given line w w″ live made top b visiting
+        unfolding recall keptAs
+        from-new d = came-when given line (fit .short) visiting d (λ l s h. ap (λ b. after (working b l s) (keep i x)) free ∙ recalled free l s none h (rw none-kept refl))
+
+        pub keep-stop : r .end ≡ STOPPED → Came given line w w′ live made top r visiting
+        keep-stop e = from-new (stopped given line (fit .short) (λ l. keep i x) c e)
+
+        module _ (few : live * 3 ≤ 2046) (low : r .top ≤ allowanceIn given) where
+          pub keep-fail : r .end ≡ FAILED → Came given line w (pairPut w′ (placeIn given line i x) 1 0) live made top (result FAILED 0 (r .top) (r .made)) visiting
+          unfolding keep keptAs
+          keep-fail e =
+              from-new
+              (then-fail given line (fit .short) (λ l. keep i x) c e
+              (keep-came fit (c .words) free few low i x li lx 1 0 (omega arith) (omega arith) FAILED _ (c .made-in) (omega arith) (λ z. absurd (omega arith))
+              (λ l s h. record { end = refl; stands = keep-stands fit (c .words) free few low i x li lx 1 0 (omega arith) (omega arith) fail refl l s h })))
+
+          pub keep-match : r .end < STOPPED → Came given line w (pairPut w′ (placeIn given line i x) (r .end + 2) (r .list)) live made top (result (r .end) (r .list) (r .top) (r .made)) visiting
+          unfolding keep keptAs
+          keep-match e =
+              let inside = c .end-in e in
+              let below = c .list-in e in
+              let two : r .end + 2 ≡ suc (suc (r .end)) = omega arith in
+              from-new
+              (then-match given line (fit .short) (λ l. keep i x) c e
+              (keep-came fit (c .words) free few low i x li lx (r .end + 2) (r .list) (omega arith) below (r .end) _ (c .made-in) (c .end-most) (λ z. inside)
+              (λ l s h. (
+                same-trees given line (keep-same fit (c .words) free few low i x li lx (r .end + 2) (r .list) (omega arith) below) (r .list) below,
+                record { end = refl; inside = inside; stands = keep-stands fit (c .words) free few low i x li lx (r .end + 2) (r .list) (omega arith) below (ok (r .end) (treesAt w′ (r .list))) (rw two refl) l s h },
+              ))))
+
+    -- The same, where the place was worked out as a number.
+    module _ {w : List ℕ} {live made top : ℕ} (at : ℕ) (is : at ≡ placeIn given line i x) (words : Words given line w live top) (free : keepsIn given ≡ true) (le : made ≤ allowanceIn given) where
+      pub fail-at : getD w at 0 ≡ 1 → Came given line w w live made top (result FAILED 0 top made) visiting
+      fail-at e = visited-fail words free le (rw is at e)
+
+      pub match-at : 1 < getD w at 0 → Came given line w w live made top (result (getD w at 0 - 2) (getD w (at + 1) 0) top made) visiting
+      match-at lt = let e : getD w (placeIn given line i x) 0 ≡ suc (suc (getD w (placeIn given line i x) 0 - 2)) = let z : 1 < getD w (placeIn given line i x) 0 = rw is at lt in omega arith in
+          rw is (visited-match words free le (getD w (placeIn given line i x) 0 - 2) e)
+
+      module _ (none-kept : getD w at 0 ≡ 0) {w′ : List ℕ} {r : Visited} (c : Came given line w w′ live made top r (working (keepsIn given))) where
+        none-here : getD w (placeIn given line i x) 0 ≡ 0
+        none-here = rw is at none-kept
+
+        pub stop-at : r .end ≡ STOPPED → Came given line w w′ live made top r visiting
+        stop-at e = keep-stop words free le none-here c e
+
+        module _ (few : live * 3 ≤ 2046) (low : r .top ≤ allowanceIn given) {w″ : List ℕ} where
+          pub keep-fail-at : w″ ≡ pairPut w′ at 1 0 → r .end ≡ FAILED → Came given line w w″ live made top (result FAILED 0 (r .top) (r .made)) visiting
+          keep-fail-at q e = rw (q, is) (keep-fail words free le none-here c few low e)
+
+          pub keep-match-at : w″ ≡ pairPut w′ at (r .end + 2) (r .list) → r .end < STOPPED → Came given line w w″ live made top (result (r .end) (r .list) (r .top) (r .made)) visiting
+          keep-match-at q e = rw (q, is) (keep-match words free le none-here c few low e)

@@ -1,0 +1,9 @@
+pub mod Frame
+pub mod Steps
+pub mod Nodes
+pub mod Enter
+pub mod Keeping
+pub mod Living
+pub mod Growing
+pub mod Ready
+pub mod ByKind

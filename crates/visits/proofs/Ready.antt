@@ -1,0 +1,95 @@
+-- When a visit may start: after another one, with one use more live, at a child of a node.
+use mathlib.Core.Path.{_≡_, refl, sym, subst, ap, _∙_}
+use mathlib.Core.List.{List}
+use Prim.Native.Nat.{ℕ, suc, _+_, _*_, _<_, _≤_}
+use native.Mathlib.Omega.{arith}
+use lib.ListN.{length, getD}
+use Rattle.meaning.specs.Grammar.{empty, node, rootOf, Below, Note}
+use Rattle.meaning.specs.Reading.{State, Run, Visit, apply}
+use Rattle.sheet.specs.Table.{decode, each}
+use Rattle.sheet.proofs.Accepting.{length-each, getD-each}
+use Rattle.visits.specs.declared.Visited.{Visited}
+use Rattle.visits.specs.Given.{kindIn, aIn, bIn, rootIn, nodesIn, rulesIn, allowanceIn, grammarIn, Fit}
+use Rattle.visits.specs.Words.{keyOf, Words}
+use Rattle.visits.specs.Says.{Ready, Came, reading, uses, applies}
+use Rattle.visits.proofs.Steps.{came-as}
+use Rattle.visits.proofs.Living.{usePut, live-words}
+use Rattle.visits.proofs.Growing.{Growing}
+
+module _ {given line : List ℕ} where
+  pub ready-next : {w w′ : List ℕ} {left live made top x pos : ℕ} {a : Visited} {m : List Note → State → Run} (y end : ℕ) → Ready given line w left live made top x pos → Came given line w w′ live made top a m
+      → a .top + made ≤ top + a .made → y < nodesIn given → end ≤ length line → Ready given line w′ left live (a .made) (a .top) y end
+  ready-next y end r c cells ly inside =
+      let t = r .top-in in
+      record { fit = r .fit; words = c .words; node-in = ly; pos-in = inside; open-in = r .open-in; made-in = c .made-in; top-in = omega arith }
+
+  pub ready-live : {w w′ : List ℕ} {left live made top root pos : ℕ} (rule end list : ℕ) → Ready given line w left live made top root pos → live + left ≤ 512 → end ≤ length line → list ≤ top
+      → w′ ≡ usePut w (live * 3) (keyOf rule pos) end list → Ready given line w′ left (live + 1) made top root pos
+  ready-live {left = left} {live = live} {pos = pos} rule end list r few inside below e = rw e (record {
+    fit = r .fit;
+    words = live-words given line (r .fit) rule pos end list (r .words) (omega arith) inside below;
+    node-in = r .node-in;
+    pos-in = r .pos-in;
+    open-in = omega arith;
+    made-in = r .made-in;
+    top-in = r .top-in;
+  })
+
+  -- A visit that is counted.
+  pub ready-open : {w : List ℕ} {left live made top i pos : ℕ} (d : ℕ) → Ready given line w left live made top i pos → made < allowanceIn given → left ≡ suc d
+      → Ready given line w d live (made + 1) top i pos
+  ready-open d r lt e =
+      let t = r .top-in in
+      let o = r .open-in in
+      record { fit = r .fit; words = r .words; node-in = r .node-in; pos-in = r .pos-in; open-in = omega arith; made-in = omega arith; top-in = omega arith }
+
+  -- Another attempt of the growing loop.
+  pub ready-loop : {w₀ : List ℕ} {left live made top root pos : ℕ} {v : List Note → Visit} {a x end₀ made₀ top₀ : ℕ} {w₁ w : List ℕ} {end made′ top′ : ℕ} → Ready given line w₀ left live made top root pos → top₀ ≤ made₀
+      → Growing given line v root a x live w₁ end₀ made₀ top₀ w end made′ top′ → Ready given line w left live made′ top′ root pos
+  ready-loop r le g =
+      let c = g .cells in
+      record { fit = r .fit; words = g .words; node-in = r .node-in; pos-in = r .pos-in; open-in = r .open-in; made-in = g .made-in; top-in = omega arith }
+
+  -- Another node at the same position.
+  pub ready-at : {w : List ℕ} {left live made top i pos : ℕ} (j : ℕ) → Ready given line w left live made top i pos → j < nodesIn given → Ready given line w left live made top j pos
+  ready-at j r lj = record { fit = r .fit; words = r .words; node-in = lj; pos-in = r .pos-in; open-in = r .open-in; made-in = r .made-in; top-in = r .top-in }
+
+module _ (given line : List ℕ) (fit : Fit given line) where
+  pub nodes-are : length (grammarIn given .nodes) ≡ nodesIn given
+  unfolding grammarIn
+  nodes-are = length-each _ 0 (nodesIn given)
+
+  pub rules-are : length (grammarIn given .roots) ≡ rulesIn given
+  unfolding grammarIn
+  rules-are = length-each _ 0 (rulesIn given)
+
+  pub root-is : (a : ℕ) → a < rulesIn given → rootIn given a ≡ rootOf (grammarIn given) a
+  unfolding grammarIn
+  root-is a h = let e : a ≡ 0 + a = omega arith in ap (rootIn given) e ∙ sym (getD-each (rootIn given) 0 (rulesIn given) a 0 h)
+
+  pub root-in : (a : ℕ) → a < rulesIn given → rootIn given a < nodesIn given
+  root-in a h =
+      let l : a < length (grammarIn given .roots) = rw rules-are h in
+      let r = fit .closed .roots a l in
+      let e = root-is a h in
+      let n = nodes-are in
+      omega arith
+
+  module _ (i k : ℕ) (li : i < nodesIn given) (is : kindIn given i ≡ k) where
+    -- What node i is, by its kind.
+    pub node-as : node (grammarIn given) i ≡ decode k (aIn given i) (bIn given i)
+    unfolding grammarIn
+    node-as =
+        let e : 0 + i ≡ i = omega arith in
+        getD-each (λ j. decode (kindIn given j) (aIn given j) (bIn given j)) 0 (nodesIn given) i empty li
+        ∙ ap (λ j. decode (kindIn given j) (aIn given j) (bIn given j)) e
+        ∙ ap (λ j. decode j (aIn given i) (bIn given i)) is
+
+    pub below-as : Below (grammarIn given) i (decode k (aIn given i) (bIn given i))
+    below-as = subst (Below (grammarIn given) i) node-as (fit .closed .nodes i (rw nodes-are li))
+
+    -- What its application is.
+    pub applied-as : {w w′ : List ℕ} {live made top : ℕ} {r : Visited} (left pos : ℕ)
+        → Came given line w w′ live made top r (λ l s. apply line (reading given line left l) (uses given line left l) i pos s (decode k (aIn given i) (bIn given i)))
+        → Came given line w w′ live made top r (λ l s. applies given line left l i pos s)
+    applied-as left pos c = came-as given line (fit .short) _ c (λ l s. ap (apply line (reading given line left l) (uses given line left l) i pos s) (sym node-as))

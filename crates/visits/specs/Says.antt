@@ -1,0 +1,95 @@
+-- What the functions of a visit ask, and what their results say of the reading.
+use Prim.Native.Nat.{ℕ, _+_, _*_, _<_, _≤_}
+use mathlib.Core.Path.{_≡_}
+use mathlib.Core.List.{List}
+use lib.ListN.{length}
+use mathlib.Core.Bool.{false}
+use Rattle.meaning.specs.Grammar.{Answer, fail, ok, Note, node}
+use Rattle.meaning.specs.Reading.{State, Run, effort, deep, done, Visit, apply, useRule, visited, visit}
+use Rattle.cells.specs.Cells.{treesAt}
+use Rattle.visits.specs.declared.Visited.{Visited}
+use Rattle.visits.specs.Given.{nodesIn, keepsIn, allowanceIn, grammarIn, Fit}
+use Rattle.visits.specs.Words.{Stands, Words, Same}
+
+-- The reading that the functions follow, by the decoded table: a visit with so many open visits left, a use of a rule, a use that becomes
+-- live, a node's application, and a visit that is counted and open.
+abbrev pub reading : List ℕ → List ℕ → ℕ → List Note → Visit
+reading given line left = visit (grammarIn given) line (keepsIn given) left
+
+abbrev pub uses : List ℕ → List ℕ → ℕ → List Note → Visit
+uses given line left = useRule (grammarIn given) line (keepsIn given) (reading given line left)
+
+abbrev pub grows : List ℕ → List ℕ → ℕ → List Note → Visit
+grows given line left = useRule (grammarIn given) line false (reading given line left)
+
+abbrev pub applies : List ℕ → List ℕ → ℕ → List Note → Visit
+applies given line left l i x s = apply line (reading given line left l) (uses given line left l) i x s (node (grammarIn given) i)
+
+abbrev pub opens : List ℕ → List ℕ → ℕ → List Note → Visit
+opens given line left = visited (grammarIn given) line (keepsIn given) (reading given line left)
+
+-- The ends that are no position.
+abbrev pub FAILED : ℕ
+FAILED = 65535
+
+abbrev pub STOPPED : ℕ
+STOPPED = 65534
+
+-- Where an answer ends, as a result has it.
+unfoldable pub endOf : Answer → ℕ
+endOf fail = FAILED
+endOf (ok e ts) = e
+
+-- A visit may start.
+pub record Ready (given line w : List ℕ) (left live made top node pos : ℕ) : Type 0 where
+  pub fit : Fit given line
+  pub words : Words given line w live top
+  pub node-in : node < nodesIn given
+  pub pos-in : pos ≤ length line
+  pub open-in : live + left ≤ 513
+  pub made-in : made ≤ allowanceIn given
+  pub top-in : top ≤ made
+
+-- A refusal with its code, at a position.
+pub record Refused (given : List ℕ) (r : Visited) (code place : ℕ) (s : State) : Type 0 where
+  pub end : r .end ≡ STOPPED
+  pub list : r .list ≡ code * 4096 + place
+  pub left : s .left + r .made ≡ allowanceIn given
+
+pub record Failed (given line w : List ℕ) (live : ℕ) (l : List Note) (r : Visited) (s : State) : Type 0 where
+  pub end : r .end ≡ FAILED
+  pub stands : Stands given line w live (r .made) l s
+
+pub record Matched (given line w : List ℕ) (live : ℕ) (l : List Note) (r : Visited) (a : ℕ) (s : State) : Type 0 where
+  pub end : r .end ≡ a
+  pub inside : a ≤ length line
+  pub stands : Stands given line w live (r .made) l s
+
+-- A result says how a run ends.
+abbrev pub Says : (given line w : List ℕ) (live : ℕ) (l : List Note) (r : Visited) → Run → Type 0
+Says given line w live l r (effort p s) = Refused given r 11 p s
+Says given line w live l r (deep p s) = Refused given r 12 p s
+Says given line w live l r (done fail s) = Failed given line w live l r s
+Says given line w live l r (done (ok e ts) s) = (treesAt w (r .list) ≡ ts) × Matched given line w live l r e s
+
+-- From the words old a step came to the words new and a result, which says how the run m ends.
+pub record Came (given line old new : List ℕ) (live made top : ℕ) (r : Visited) (m : List Note → State → Run) : Type 0 where
+  pub same : Same given line old new live top
+  pub words : Words given line new live (r .top)
+  pub end-most : r .end ≤ FAILED
+  pub end-in : r .end < STOPPED → r .end ≤ length line
+  pub list-in : r .end < STOPPED → r .list ≤ r .top
+  pub top-up : top ≤ r .top
+  pub made-up : made ≤ r .made
+  pub made-in : r .made ≤ allowanceIn given
+  pub says : (l : List Note) (s : State) → Stands given line old live made l s → Says given line new live l r (m l s)
+
+-- What a node's application comes to makes no more cells than visits; a visit that matches makes fewer.
+pub record Applied (given line old new : List ℕ) (live made top : ℕ) (r : Visited) (m : List Note → State → Run) : Type 0 where
+  pub came : Came given line old new live made top r m
+  pub cells : r .top + made ≤ top + r .made
+
+pub record Visits (given line old new : List ℕ) (live made top : ℕ) (r : Visited) (m : List Note → State → Run) : Type 0 where
+  pub came : Came given line old new live made top r m
+  pub cells : r .top + made ≤ top + r .made
+  pub fewer : r .end < STOPPED → r .top + made < top + r .made

@@ -1,0 +1,73 @@
+-- What the working numbers stand for: live uses from word 0 on, three words each; cells of trees; kept answers, two words a pair.
+use Prim.Native.Nat.{ℕ, zero, suc, _+_, _-_, _*_, _<_, _≤_}
+use mathlib.Core.Path.{_≡_}
+use mathlib.Core.Logic.{_≢_}
+use mathlib.Core.Bool.{true}
+use mathlib.Core.List.{List, [], _∷_}
+use mathlib.Core.Option.{Option, none, some}
+use lib.ListN.{length, getD}
+use Rattle.meaning.specs.Grammar.{Trees, no-trees, tree, Answer, fail, ok, Note, look}
+use Rattle.meaning.specs.Reading.{State}
+use Rattle.cells.specs.Cells.{treesAt}
+use Rattle.cells.specs.Arena.{Arena}
+use Rattle.visits.specs.Given.{nodesIn, keepsIn, baseIn, allowanceIn, pairsIn, roomIn}
+
+-- A pair of a rule and a position as one number.
+abbrev pub keyOf : ℕ → ℕ → ℕ
+keyOf a x = x * 64 + a
+
+-- An answer of rule a at x as a live use holds it: list 0 is a failure; else the list is the tree of the match.
+abbrev pub HeldAs : (end list : ℕ) → Trees → (a x : ℕ) → Answer → Type 0
+HeldAs end list ts a x fail = list ≡ 0
+HeldAs end list ts a x (ok e us) = (list ≢ 0) × (end ≡ e) × (ts ≡ tree a x e us no-trees)
+
+-- Live use i is the note n.
+pub record Entry (w : List ℕ) (i : ℕ) (n : Note) : Type 0 where
+  pub key : getD w (i * 3) 0 ≡ keyOf (n .number) (n .position)
+  pub small : n .number < 64
+  pub held : HeldAs (getD w (i * 3 + 1) 0) (getD w (i * 3 + 2) 0) (treesAt w (getD w (i * 3 + 2) 0)) (n .number) (n .position) (n .answer)
+
+-- The first uses are the notes, the newest first; no pair is live twice.
+abbrev pub Lives : List ℕ → ℕ → List Note → Type 0
+Lives w live [] = live ≡ 0
+Lives w live (n ∷ l) = (k : ℕ) × (live ≡ k + 1) × Entry w k n × (look l (n .number) (n .position) ≡ none) × Lives w k l
+
+-- Where the answer of a pair is kept.
+abbrev pub placeIn : List ℕ → List ℕ → ℕ → ℕ → ℕ
+placeIn given line i x = baseIn given + (i * (length line + 1) + x) * 2
+
+-- A kept answer by its words: 0 none, 1 a failure, e + 2 a match that ends at e; and the list of its trees.
+unfoldable pub keptAs : ℕ → Trees → Option Answer
+keptAs zero ts = none
+keptAs (suc zero) ts = some fail
+keptAs (suc (suc e)) ts = some (ok e ts)
+
+abbrev pub keptAt : List ℕ → ℕ → Option Answer
+keptAt w p = keptAs (getD w p 0) (treesAt w (getD w (p + 1) 0))
+
+-- What the words stand for, where so many visits are made: the live uses l, and the state s.
+pub record Stands (given line w : List ℕ) (live made : ℕ) (l : List Note) (s : State) : Type 0 where
+  pub lives : Lives w live l
+  pub left : s .left + made ≡ allowanceIn given
+  pub kept : keepsIn given ≡ true → (i x : ℕ) → i < nodesIn given → x ≤ length line → look (s .kept) i x ≡ keptAt w (placeIn given line i x)
+
+-- The words are in order: there is room, lists lie below top, ends lie inside the line.
+pub record Words (given line w : List ℕ) (live top : ℕ) : Type 0 where
+  pub room : roomIn given line ≤ length w
+  pub arena : Arena w top
+  pub held-lists : (i : ℕ) → i < live → getD w (i * 3 + 2) 0 ≤ top
+  pub held-ends : (i : ℕ) → i < live → getD w (i * 3 + 1) 0 ≤ length line
+  pub kept-lists : keepsIn given ≡ true → (j : ℕ) → j < pairsIn given line → getD w (baseIn given + j * 2 + 1) 0 ≤ top
+  pub kept-ends : keepsIn given ≡ true → (j : ℕ) → j < pairsIn given line → getD w (baseIn given + j * 2) 0 ≤ length line + 2
+
+-- The words that a visit leaves as they are: those of the live uses, of the cells below top, and all past the room.
+pub record Same (given line old new : List ℕ) (live top : ℕ) : Type 0 where
+  pub uses : (i : ℕ) → i < live * 3 → getD new i 0 ≡ getD old i 0
+  pub cells : (i : ℕ) → 2046 ≤ i → i < 2048 + 4 * top → getD new i 0 ≡ getD old i 0
+  pub past : (i : ℕ) → roomIn given line ≤ i → getD new i 0 ≡ getD old i 0
+
+-- A search for the live use with a key found entry r - 1, or none where r is 0.
+pub record Found (w : List ℕ) (live key r : ℕ) : Type 0 where
+  pub within : r ≤ live
+  pub is : 0 < r → getD w ((r - 1) * 3) 0 ≡ key
+  pub none : r ≡ 0 → (i : ℕ) → i < live → getD w (i * 3) 0 ≢ key
