@@ -6,10 +6,11 @@ use native.Mathlib.Omega.{arith}
 use native.Mathlib.Numerals.{add-one}
 use native.Mathlib.Nat.{eq-or-lt-of-le}
 use Prim.Native.Nat.{ℕ, zero, suc, _+_, _*_, _/_, _%_, _<_, _≤_}
-use lib.ListN.{length, getD, set, length-append, List·getD-append}
-use lib.Seq.{getD-at, getD-set-other}
+use lib.ListN.{length, getD, length-append, List·getD-append}
+use lib.Seq.{sets, length-sets, getD-at}
 use borrow.Author.Tests.{le-ltb, lt-ltb}
 use Rattle.meaning.specs.Grammar.{Trees, no-trees, tree, _⋈_}
+use Rattle.stored.proofs.Sets.{sets-below, sets-above}
 use Rattle.cells.specs.Cells.{mark, cellTrees, lists, treesAt}
 use Rattle.cells.specs.Arena.{Arena, Made}
 
@@ -61,12 +62,12 @@ same-then old mid new top h g i a b = g i a b ∙ h i a b
 pub same-less : (old new : List ℕ) (top k : ℕ) → k ≤ top → SameCells old new top → SameCells old new k
 same-less old new top k l h i a b = h i a (omega arith)
 
--- A word is changed below the cells, or above them.
-pub same-below : (words : List ℕ) (top i v : ℕ) → i < 2046 → SameCells words (set words i v) top
-same-below words top i v h j a b = getD-set-other words i j v 0 (omega arith)
+-- Words are written below the cells, or above them.
+pub same-below : (words : List ℕ) (top at : ℕ) (xs : List ℕ) → at + length xs ≤ 2046 → SameCells words (sets words at xs) top
+same-below words top at xs h i a b = sets-above xs words at i (omega arith)
 
-pub same-above : (words : List ℕ) (top i v : ℕ) → 2048 + 4 * top ≤ i → SameCells words (set words i v) top
-same-above words top i v h j a b = getD-set-other words i j v 0 (omega arith)
+pub same-above : (words : List ℕ) (top at : ℕ) (xs : List ℕ) → 2048 + 4 * top ≤ at → SameCells words (sets words at xs) top
+same-above words top at xs h i a b = sets-below xs words at i (omega arith)
 
 -- Making a list leaves the older cells.
 pub made-same : {old new : List ℕ} {top list top′ : ℕ} {ts : Trees} → Made old new top list top′ ts → SameCells old new top
@@ -103,6 +104,12 @@ arena-less words top k h a = record {
   records = λ i u. a .records i (omega arith);
   trees = λ i u. a .trees i (omega arith);
 }
+
+pub arena-below : (words : List ℕ) (top at : ℕ) (xs : List ℕ) → at + length xs ≤ 2046 → Arena words top → Arena (sets words at xs) top
+arena-below words top at xs h a = arena-same words (sets words at xs) top (same-below words top at xs h) (length-sets words at xs) a
+
+pub arena-above : (words : List ℕ) (top at : ℕ) (xs : List ℕ) → 2048 + 4 * top ≤ at → Arena words top → Arena (sets words at xs) top
+arena-above words top at xs h a = arena-same words (sets words at xs) top (same-above words top at xs h) (length-sets words at xs) a
 
 -- Making a list leaves the older lists.
 pub made-older : {old new : List ℕ} {top list top′ : ℕ} {ts : Trees} → Made old new top list top′ ts → (older : ℕ) → older ≤ top → treesAt new older ≡ treesAt old older

@@ -50,9 +50,6 @@ module _ (words : List ℕ) (list : ℕ) (arena : Arena words list) (z : list �
     pub second-below : second words list < list
     second-below = let h : second words list ≤ list - 1 = rw at-second at (arena .second (list - 1) (omega arith)) m in omega arith
 
-    pub second-arena : Arena words (second words list)
-    second-arena = arena-less words list (second words list) (omega (arith, second-below)) arena
-
     is-join : treesAt words list ≡ treesAt words (first words list) ⋈ treesAt words (second words list)
     is-join = rw (back, at-first, at-second) at (trees-join words list (list - 1) arena (omega arith)) m
 
@@ -112,25 +109,50 @@ module _ (words : List ℕ) (list : ℕ) (arena : Arena words list) (z : list �
   pub bytes-first : (width : ℕ) → recordSize width * recordsOf (treesAt words (first words list)) ≤ recordSize width * recordsOf (treesAt words list)
   bytes-first width = mul-le-mul-left (recordSize width) records-first
 
--- The whole stored reading of one tree: the head, the records of its children, its own.
-pub all-wrote : (room r₁ r₂ r₃ : List ℕ) (width a x e n end number : ℕ) (cs : Trees) → 1 + recordsOf cs ≤ 1000 → storedLength width (1 + recordsOf cs) ≤ length room
-    → n ≡ saturated (recordsOf cs) → number ≡ saturated (numberOf cs) → r₁ ≡ sets room 0 (headBytes width (n + 1)) → Wrote r₁ r₂ width 5 end cs
-    → r₃ ≡ sets r₂ end (recordBytes width a x e number) → r₃ ≡ withStored room width (tree a x e cs no-trees)
-unfolding storedOf treesBytes
-all-wrote room r₁ r₂ r₃ width a x e n end number cs few fits en em e₁ w₂ e₃ =
-    let c = number-few cs in
-    let t : Trees = tree a x e cs no-trees in
-    let k : recordsOf t ≡ 1 + recordsOf cs = records-tree a x e cs in
-    let h = headBytes width (recordsOf t) in
-    let xs = treesBytes width cs in
-    let ys = recordBytes width a x e (numberOf cs) in
-    let n′ : n + 1 ≡ recordsOf t = omega arith in
-    let m′ : number ≡ numberOf cs = omega arith in
-    let lh : length h ≡ 5 = length-head width (recordsOf t) in
-    let lx = length-trees width cs in
-    let s₂ : r₃ ≡ sets r₁ 5 (xs ++ ys) = sets-on r₁ 5 end xs ys r₂ r₃ (omega (arith, w₂ .0)) (w₂ .1) (rw m′ at e₃) in
-    let s₁ : r₃ ≡ sets room 0 (h ++ (xs ++ ys)) = sets-on room 0 5 h (xs ++ ys) r₁ r₃ (omega arith) (rw n′ at e₁) s₂ in
-    let is : storedOf width t ≡ h ++ (xs ++ ys) = rw (append-nil ys) in
-    let l : length (h ++ (xs ++ ys)) ≡ storedLength width (recordsOf t) = ap length (sym is) ∙ length-stored width t in
-    let f : storedLength width (recordsOf t) ≤ length room = rw k fits in
-    s₁ ∙ sets-front room (h ++ (xs ++ ys)) (omega arith) ∙ rw (l, is)
+-- Along a list: what is left to write at a place gives what the whole list gives from its own.
+pub record Along (words room₀ room : List ℕ) (width list at rest to : ℕ) : Type 0 where
+  pub within : rest ≤ list
+  pub few : recordsOf (treesAt words rest) ≤ 1000
+  pub place : to + recordSize width * recordsOf (treesAt words rest) ≡ at + recordSize width * recordsOf (treesAt words list)
+  pub same : sets room to (treesBytes width (treesAt words rest)) ≡ sets room₀ at (treesBytes width (treesAt words list))
+
+module _ {words room₀ room : List ℕ} {width list at rest to : ℕ} (along : Along words room₀ room width list at rest to) where
+  whole : (new : List ℕ) (end : ℕ) → Wrote room new width to end (treesAt words rest) → Wrote room₀ new width at end (treesAt words list)
+  whole new end f = (f .0 ∙ along .place, f .1 ∙ along .same)
+
+  pub along-none : rest ≡ 0 → Wrote room₀ room width at to (treesAt words list)
+  along-none z = whole room to (none-wrote words rest room width to z)
+
+  module _ (arena : Arena words list) (z : rest ≡ 0 → ⊥) where
+    pub here : Arena words rest
+    here = arena-less words list rest (along .within) arena
+
+    pub along-tree : (m : mark ≤ second words rest) (mid new : List ℕ) (next end n : ℕ) → n ≡ saturated (numberOf (treesAt words (first words rest)))
+        → Wrote room mid width to next (treesAt words (first words rest)) → end ≡ next + recordSize width
+        → new ≡ sets mid next (recordBytes width (second words rest / 16777216 % 64) (second words rest / 4096 % 4096) (second words rest % 4096) n)
+        → Wrote room₀ new width at end (treesAt words list)
+    along-tree m mid new next end n en f ee e = whole new end (tree-wrote words rest here z m room mid new width to next end n (along .few) en f ee e)
+
+    pub along-join : (m : second words rest < mark) (mid : List ℕ) (next : ℕ) → Wrote room mid width to next (treesAt words (first words rest))
+        → Along words room₀ mid width list at (second words rest) next
+    along-join m mid next f =
+        let l = second-below words rest here z m in
+        let r = records-both words rest here z m in
+        let b = bytes-both words rest here z m width in
+        let ys = treesBytes width (treesAt words (second words rest)) in
+        let e : sets mid next ys ≡ sets room to (treesBytes width (treesAt words rest)) =
+        join-wrote words rest here z m room mid (sets mid next ys) width to next (next + recordSize width * recordsOf (treesAt words (second words rest))) f (refl, refl) .1 in
+        record { within = omega arith; few = omega arith; place = omega (arith, f .0); same = e ∙ along .same }
+
+-- The whole stored reading: the head, then the records.
+pub all-wrote : (room r₁ r₂ : List ℕ) (width n end : ℕ) (ts : Trees) → recordsOf ts ≤ 1000 → storedLength width (recordsOf ts) ≤ length room
+    → n ≡ saturated (recordsOf ts) → r₁ ≡ sets room 0 (headBytes width n) → Wrote r₁ r₂ width 5 end ts → r₂ ≡ withStored room width ts
+unfolding storedOf
+all-wrote room r₁ r₂ width n end ts few fits en e₁ w₂ =
+    let h = headBytes width (recordsOf ts) in
+    let xs = treesBytes width ts in
+    let n′ : n ≡ recordsOf ts = omega arith in
+    let lh : length h ≡ 5 = length-head width (recordsOf ts) in
+    let s : r₂ ≡ sets room 0 (h ++ xs) = sets-on room 0 5 h xs r₁ r₂ (omega arith) (rw n′ at e₁) (w₂ .1) in
+    let l : length (h ++ xs) ≡ storedLength width (recordsOf ts) = length-stored width ts in
+    s ∙ sets-front room (h ++ xs) (omega arith) ∙ rw l

@@ -4,7 +4,8 @@
 // tree over the list of its children, or two lists joined, and holds how many records and how many trees its list has, both at most
 // 1,001: joined twice, a list doubles, so a plain count would not fit. Words 2046 and 2047 hold the two counts of list 0.
 // specs/Cells says which trees a list stands for, as a function of the words; specs/Arena what is kept true (Arena) and what making a list
-// leaves (Made). proofs/Frame has the laws that a caller cites: a change below word 2046 or above the cells keeps every list.
+// leaves (Made). proofs/Frame has the laws that a caller cites: what is written below word 2046 or above the cells keeps every list, and so
+// does every cell that is added.
 
 ghost use mathlib.Core.Path.{_≡_};
 ghost use Prim.Native.Nat.{ℕ, _+_, _*_, _<_, _≤_};
@@ -120,59 +121,48 @@ pub fn join(work: &mut [u32], top: u32, left: u32, right: u32) -> Held
     }
 }
 
-// Writes the records of a list of trees from at on, and says where they end.
+// Writes the records of a list of trees from at on, and says where they end. It calls itself for a cell's first list only, so no deeper than there are records.
 fn write_trees(work: &[u32], room: &mut [u8], width: usize, list: u32, at: usize) -> usize
     requires arena { ⌜ Arena (now work) list ⌝ }
     requires few { ⌜ (recordsOf (treesAt (now work) list) ≤ 1000) × ((0 < width) × (width ≤ 2)) ⌝ }
     requires fits { ⌜ at + recordSize width * recordsOf (treesAt (now work) list) ≤ length (now room) ⌝ }
     ensures { λ r. ⌜ Wrote (now (room .entry)) (now (room .exit)) width at r (treesAt (now (work .entry)) list) ⌝ }
 {
-    if list == 0 {
-        return at;
+    let mut rest = list;
+    let mut to = at;
+    while rest != 0 {
+        let cell = 2044 + 4 * rest as usize;
+        let first = work[cell];
+        let second = work[cell + 1];
+        let mut next = to;
+        if first != 0 {
+            next = write_trees(work, room, width, first, to);
+        }
+        if 1073741824 <= second {
+            let number = trees_of(work, first);
+            return stored::put_record(
+                room,
+                width,
+                next,
+                second / 16777216 % 64,
+                second / 4096 % 4096,
+                second % 4096,
+                number,
+            );
+        }
+        rest = second;
+        to = next;
     }
-    let cell = 2044 + 4 * list as usize;
-    let first = work[cell];
-    let second = work[cell + 1];
-    let mid = write_trees(work, room, width, first, at);
-    if second < 1073741824 {
-        return write_trees(work, room, width, second, mid);
-    }
-    let number = trees_of(work, first);
-    stored::put_record(
-        room,
-        width,
-        mid,
-        second / 16777216 % 64,
-        second / 4096 % 4096,
-        second % 4096,
-        number,
-    )
+    to
 }
 
-// Writes the stored reading of one tree, given by its rule, its span and the list of its children, at the room's front.
-pub fn write(
-    work: &[u32],
-    room: &mut [u8],
-    width: usize,
-    rule: u32,
-    start: u32,
-    end: u32,
-    children: u32,
-)
-    requires arena { ⌜ Arena (now work) children ⌝ }
-    requires few { ⌜ (1 + recordsOf (treesAt (now work) children) ≤ 1000) × ((0 < width) × (width ≤ 2)) ⌝ }
-    requires fits { ⌜ storedLength width (1 + recordsOf (treesAt (now work) children)) ≤ length (now room) ⌝ }
-    ensures { λ _. ⌜ now (room .exit) ≡ withStored (now (room .entry)) width (tree rule start end (treesAt (now (work .entry)) children) no-trees) ⌝ }
+// Writes the stored reading of a list of trees at the room's front.
+pub fn write(work: &[u32], room: &mut [u8], width: usize, list: u32)
+    requires arena { ⌜ Arena (now work) list ⌝ }
+    requires few { ⌜ (recordsOf (treesAt (now work) list) ≤ 1000) × ((0 < width) × (width ≤ 2)) ⌝ }
+    requires fits { ⌜ storedLength width (recordsOf (treesAt (now work) list)) ≤ length (now room) ⌝ }
+    ensures { λ _. ⌜ now (room .exit) ≡ withStored (now (room .entry)) width (treesAt (now (work .entry)) list) ⌝ }
 {
-    stored::put_head(room, width, records_of(work, children) + 1);
-    let last = write_trees(work, room, width, children, 5);
-    stored::put_record(
-        room,
-        width,
-        last,
-        rule,
-        start,
-        end,
-        trees_of(work, children),
-    );
+    stored::put_head(room, width, records_of(work, list));
+    write_trees(work, room, width, list, 5);
 }

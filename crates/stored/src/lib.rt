@@ -3,8 +3,8 @@
 // specs/Stored says what the bytes of a tree are and specs/WellFormed which bytes are well formed, both in document 01's words and over
 // the width of a position: one byte in version 1, and the version is the width. put_head and put_record write it piece by piece, each
 // over what stands in the room; well_formed judges any slice, however long, with scratch of its own.
-// proofs/Written shows that what is stored of a tree whose spans nest (specs/Nested) is well formed; proofs/ReadBack that well-formed
-// bytes are stored of exactly one tree, and that treeOf (specs/ReadBack) reads it back.
+// proofs/Written shows that what is stored of a tree whose spans nest (specs/Nested) is well formed; proofs/OneTree that well-formed bytes
+// are stored of exactly one tree, which treeOf (specs/ReadBack) reads back from them.
 
 ghost use mathlib.Core.Path.{_≡_};
 ghost use Prim.Native.Nat.{ℕ, _+_, _*_, _%_, _<_, _≤_};

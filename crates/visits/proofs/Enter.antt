@@ -44,18 +44,18 @@ module _ (given line : List ℕ) (fit : Fit given line) where
   abbrev reading : ℕ → List Note → Visit
   reading d = visit (grammarIn given) line (keepsIn given) d
 
-  module _ {w : List ℕ} {live made top : ℕ} (left i x : ℕ) (words : Words given line w live top) (le : made ≤ allowanceIn given) where
+  module _ {w : List ℕ} {live made top : ℕ} (left i x : ℕ) (words : Words given line w live top) (le : made ≤ allowanceIn given) (inside : x ≤ length line) where
     pub enter-effort : allowanceIn given ≤ made → Came given line w w live made top (result STOPPED (11 * 4096 + x) top made) (λ l s. reading left l i x s)
     enter-effort h =
         still given line (fit .short) STOPPED (11 * 4096 + x) _ words le (omega arith) (λ z. absurd (omega arith)) (λ z. absurd (omega arith))
-        (λ l s st. let e = st .left in rw (visit-none-left (grammarIn given) line (keepsIn given) l i x s left (omega arith)) (record { end = refl; list = refl; left = st .left }))
+        (λ l s st. let e = st .left in rw (visit-none-left (grammarIn given) line (keepsIn given) l i x s left (omega arith)) (record { end = refl; list = refl; small = let sh = fit .short in omega arith; left = st .left }))
 
     pub enter-deep : made < allowanceIn given → left ≡ 0 → Came given line w w live made top (result STOPPED (12 * 4096 + x) top made) (λ l s. reading left l i x s)
     enter-deep h z =
         still given line (fit .short) STOPPED (12 * 4096 + x) _ words le (omega arith) (λ z. absurd (omega arith)) (λ z. absurd (omega arith))
         (λ l s st. let e = st .left in
         let n = follows (s .left) (omega arith) in
-        rw (z, visit-deep-at (grammarIn given) line (keepsIn given) l i x s (n .0) (n .1)) (record { end = refl; list = refl; left = st .left }))
+        rw (z, visit-deep-at (grammarIn given) line (keepsIn given) l i x s (n .0) (n .1)) (record { end = refl; list = refl; small = let sh = fit .short in omega arith; left = st .left }))
 
   spend : {w : List ℕ} {live made : ℕ} {l : List Note} {s : State} (n : ℕ) → s .left ≡ suc n → Stands given line w live made l s → Stands given line w live (made + 1) l (spent n s)
   spend n e h = record { lives = h .lives; left = let z = h .left in omega arith; kept = h .kept }

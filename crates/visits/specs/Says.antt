@@ -54,6 +54,7 @@ pub record Ready (given line w : List ℕ) (left live made top node pos : ℕ) :
 pub record Refused (given : List ℕ) (r : Visited) (code place : ℕ) (s : State) : Type 0 where
   pub end : r .end ≡ STOPPED
   pub list : r .list ≡ code * 4096 + place
+  pub small : place < 4096
   pub left : s .left + r .made ≡ allowanceIn given
 
 pub record Failed (given line w : List ℕ) (live : ℕ) (l : List Note) (r : Visited) (s : State) : Type 0 where

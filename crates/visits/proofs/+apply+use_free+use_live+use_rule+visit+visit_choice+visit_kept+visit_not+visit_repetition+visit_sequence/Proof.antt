@@ -786,7 +786,7 @@ visit-returns : (t : ℕ) → visit-lts.Need-returns (visit-claims t) (visit-at 
 visit-returns t c =
     let at-start = c .before .before .before .before in
     let at-if1 = c .if1 in
-    record { came = enter-effort _ _ (at-start .pre .1 .fit) _ _ _ ((at-start .pre .1) .words) ((at-start .pre .1) .made-in) (at-if1 .taken); cells = omega arith; fewer = λ z. absurd (omega arith) }
+    record { came = enter-effort _ _ (at-start .pre .1 .fit) _ _ _ ((at-start .pre .1) .words) ((at-start .pre .1) .made-in) ((at-start .pre .1) .pos-in) (at-if1 .taken); cells = omega arith; fewer = λ z. absurd (omega arith) }
 
 visit-mul-t18 : (t : ℕ) → visit-lts.Need-mul-t18 (visit-claims t) (visit-at t) visit.Post
 visit-mul-t18 t c = search needs
@@ -799,7 +799,7 @@ visit-returns-2 t c =
     let at-start = c .before .before .before .before .before in
     let at-if1 = c .before .if1 in
     let at-if2 = c .if2 in
-    record { came = enter-deep _ _ (at-start .pre .1 .fit) _ _ _ ((at-start .pre .1) .words) ((at-start .pre .1) .made-in) (at-if1 .left) (at-if2 .taken); cells = omega arith; fewer = λ z. absurd (omega arith) }
+    record { came = enter-deep _ _ (at-start .pre .1 .fit) _ _ _ ((at-start .pre .1) .words) ((at-start .pre .1) .made-in) ((at-start .pre .1) .pos-in) (at-if1 .left) (at-if2 .taken); cells = omega arith; fewer = λ z. absurd (omega arith) }
 
 visit-element-copy-out-if3 : (t : ℕ) → visit-lts.Need-element-copy-out-if3 (visit-claims t) (visit-at t) visit.Post
 visit-element-copy-out-if3 t c = search needs

@@ -1,0 +1,85 @@
+-- What comes back, return by return, however the run ended.
+use mathlib.Core.Path.{_≡_, refl, sym, ap, subst, _∙_}
+use mathlib.Core.Logic.{_≢_}
+use mathlib.Core.Bool.{Bool, true, false, _&&_, cond}
+use mathlib.Core.List.{List, _++_}
+use Prim.Native.Nat.{ℕ, _+_, _-_, _*_, _/_, _%_, _<_, _≤_}
+use native.Mathlib.Omega.{arith}
+use lib.ListN.{length, drop}
+use lib.Dec.{ltb}
+use borrow.Author.Tests.{lt-ltb, le-ltb}
+use Rattle.meaning.specs.Grammar.{Trees, fail, ok}
+use Rattle.meaning.specs.Reading.{State, Run, effort, deep, done}
+use Rattle.stored.specs.Stored.{recordsOf, storedLength, storedOf, withStored}
+use Rattle.cells.specs.Cells.{saturated, treesAt}
+use Rattle.visits.specs.declared.Visited.{Visited}
+use Rattle.visits.specs.Says.{FAILED, STOPPED}
+use Rattle.reader.specs.declared.Reading.{Reading}
+use Rattle.reader.specs.Answer.{FAIL, REST, RECORDS, ROOM, mostRecords, positionWidth, numbers, matchOutcome, runOutcome, Leaves}
+use Rattle.reader.specs.Steps.{Tells, Finishable, Finished}
+
+same-numbers : {c c′ p p′ m m′ v v′ r r′ : ℕ} → c ≡ c′ → p ≡ p′ → m ≡ m′ → v ≡ v′ → r ≡ r′ → numbers c p m v r ≡ numbers c′ p′ m′ v′ r′
+same-numbers a b c d e = rw (a, b, c, d, e) refl
+
+module _ (whole : Bool) (long : ℕ) (w : List ℕ) (v : Visited) (room : List ℕ) (f : Finishable long w v) (short : long ≤ 255) where
+  pub by-refusal : v .end ≡ STOPPED → Finished whole long w v (numbers (v .list / 4096) (v .list % 4096) 0 (v .made) 0) room room
+  unfolding runOutcome
+  by-refusal e allowance (effort p s) work h =
+      let l = h .list in
+      let z = h .small in
+      let q = h .left in
+      record { returned = same-numbers (omega arith) (omega arith) refl (omega arith) refl; working = refl; stored = refl }
+  by-refusal e allowance (deep p s) work h =
+      let l = h .list in
+      let z = h .small in
+      let q = h .left in
+      record { returned = same-numbers (omega arith) (omega arith) refl (omega arith) refl; working = refl; stored = refl }
+  by-refusal e allowance (done fail s) work h = let q = h .at in absurd (omega arith)
+  by-refusal e allowance (done (ok y ts) s) work h = let q = h .2 .at in let i = h .1 in absurd (omega arith)
+
+  pub by-failure : v .end ≡ FAILED → Finished whole long w v (numbers FAIL 0 0 (v .made) 0) room room
+  unfolding runOutcome
+  by-failure e allowance (effort p s) work h = let q = h .end in absurd (omega arith)
+  by-failure e allowance (deep p s) work h = let q = h .end in absurd (omega arith)
+  by-failure e allowance (done fail s) work h = let q = h .left in record { returned = same-numbers refl refl refl (omega arith) refl; working = refl; stored = refl }
+  by-failure e allowance (done (ok y ts) s) work h = let q = h .2 .at in let i = h .1 in absurd (omega arith)
+
+  -- A match: what comes back is by its end, its trees and the visits made.
+  module _ (lt : v .end < STOPPED) (r : Reading) (new : List ℕ)
+      (k : (work : List ℕ) → Leaves (matchOutcome whole long (v .end) (treesAt w (v .list)) (v .made) work room) r work new) where
+    pub by-match : Finished whole long w v r room new
+    unfolding runOutcome
+    by-match allowance (effort p s) work h = let q = h .end in absurd (omega arith)
+    by-match allowance (deep p s) work h = let q = h .end in absurd (omega arith)
+    by-match allowance (done fail s) work h = let q = h .at in absurd (omega arith)
+    by-match allowance (done (ok y ts) s) work h =
+        let q = h .2 .left in
+        let e : v .made ≡ allowance - s .left = omega arith in
+        rw (← h .2 .at, ← h .0, ← e) (k work)
+
+module _ (whole : Bool) (long e : ℕ) (ts : Trees) (visits : ℕ) (work room : List ℕ) where
+  pub as-rest : (whole && ltb e long) ≡ true → Leaves (matchOutcome whole long e ts visits work room) (numbers REST e e visits 0) work room
+  unfolding matchOutcome
+  as-rest q = rw q (record { returned = refl; working = refl; stored = refl })
+
+  -- The line's end is reached, or only a prefix is asked for.
+  module _ (reached : (whole && ltb e long) ≡ false) where
+    pub as-records : 1000 < recordsOf ts → Leaves (matchOutcome whole long e ts visits work room) (numbers RECORDS e e visits 1001) work room
+    unfolding matchOutcome
+    as-records lt = rw (reached, lt-ltb 1000 (recordsOf ts) lt) (record { returned = refl; working = refl; stored = refl })
+
+    module _ (few : recordsOf ts ≤ 1000) where
+      pub as-room : length room < storedLength 1 (recordsOf ts) → Leaves (matchOutcome whole long e ts visits work room) (numbers ROOM e e visits (recordsOf ts)) work room
+      unfolding matchOutcome
+      as-room lt = rw (reached, le-ltb 1000 (recordsOf ts) few, lt-ltb (length room) (storedLength 1 (recordsOf ts)) lt) (record { returned = refl; working = refl; stored = refl })
+
+      pub as-read : storedLength 1 (recordsOf ts) ≤ length room → Leaves (matchOutcome whole long e ts visits work room) (numbers 0 0 e visits (recordsOf ts)) work (withStored room 1 ts)
+      unfolding matchOutcome
+      as-read le = rw (reached, le-ltb 1000 (recordsOf ts) few, le-ltb (length room) (storedLength 1 (recordsOf ts)) le) (record { returned = refl; working = refl; stored = refl })
+
+-- A count that is at most 1,000 is the true one; one above says so of the true one.
+pub true-count : (n m : ℕ) → n ≡ saturated m → n ≤ 1000 → n ≡ m
+true-count n m e h = omega arith
+
+pub over-count : (n m : ℕ) → n ≡ saturated m → 1000 < n → 1000 < m
+over-count n m e h = omega arith

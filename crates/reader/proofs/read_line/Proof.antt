@@ -1,0 +1,117 @@
+use borrow.Author.Needs.{needs}
+use Rattle.reader.proofs.read_line.Statement.{statement}
+use Rattle.reader.proofs.read_line.Tie as tie
+use Rattle.reader.proofs.read_line.Reads as reads
+use Rattle.reader.proofs.read_line.Lts as lts
+use Rattle.cells.proofs.no_cells.Reads as no-cells-reads
+use Rattle.reader.proofs.clear.Reads as clear-reads
+use Rattle.reader.proofs.finish.Reads as finish-reads
+use Rattle.reader.proofs.kept_from.Reads as kept-from-reads
+use Rattle.reader.proofs.start.Reads as start-reads
+use Rattle.report.proofs.is_free.Reads as is-free-reads
+use borrow.Author.Needs.{needs}
+use native.Mathlib.Omega.{arith}
+use mathlib.Core.Path.{_≡_, sym, _∙_}
+use Prim.Native.Nat.{_+_, _*_, _≤_}
+use Rattle.sheet.specs.Table.{grammarOf}
+use Rattle.meaning.specs.Reading.{read}
+use Rattle.reader.specs.Answer.{cleared}
+use Rattle.reader.proofs.Turning.{past-ready, startable, as-cleared, from-in}
+
+is-free-requires : tie.Need-is-free-requires
+is-free-requires c κs = search needs
+
+mul-kept-from : tie.Need-mul-kept-from
+mul-kept-from c = search needs
+
+add-kept-from : tie.Need-add-kept-from
+add-kept-from c = search needs
+
+kept-from-requires : tie.Need-kept-from-requires
+kept-from-requires c κs = search needs
+
+clear-requires : tie.Need-clear-requires
+clear-requires c κs =
+    let at-entry = c .before .before .before .before .before .before .before .before .before .before in
+    let at-is-free = c .before .before .before .before .is-free in
+    let at-kept-from = c .before .kept-from in
+    let r = (at-entry .pre .0) .room in
+    let i = (at-entry .pre .1) in
+    let l = at-is-free .ensures .used .same-length in
+    let b : 2048 + 4 * (at-entry .args .allowance) ≤ at-entry .args .needed = omega arith in
+    (from-in (at-is-free .result) _ _ _ (at-kept-from .ensures) b, omega arith)
+
+no-cells-requires : tie.Need-no-cells-requires
+no-cells-requires c κs = search needs
+
+start-requires : tie.Need-start-requires
+start-requires c κs =
+    let at-is-free = c .before .before .before .before .before .before .before .before .before .before .before .before .is-free in
+    let at-entry = c .before .before .before .before .before .before .before .before .before .before .before .before .before .before .before .before .before .before in
+    let at-kept-from = c .before .before .before .before .before .before .before .before .before .kept-from in
+    let at-clear = c .before .before .before .before .before .before .before .clear in
+    let at-no-cells = c .before .before .before .no-cells in
+    startable _ _ _ _ _ (at-is-free .result) _ _ _ _ (at-entry .pre .0) (at-entry .pre .1) (at-is-free .ensures .used .same-length) (at-is-free .ensures .used .rest) (at-kept-from .ensures) (at-clear .ensures) (at-no-cells .ensures .0) (at-is-free .ensures .free) (at-no-cells .ensures .1)
+
+finish-requires : tie.Need-finish-requires
+finish-requires c κs = search needs
+
+clear-requires-2 : tie.Need-clear-requires-2
+clear-requires-2 c κs =
+    let at-start = c .before .before .before .before .before .before .before .before .start in
+    let at-no-cells = c .before .before .before .before .before .before .before .before .before .before .before .before .no-cells in
+    let at-clear = c .before .before .before .before .before .before .before .before .before .before .before .before .before .before .before .before .clear in
+    let at-is-free = c .before .before .before .before .before .before .before .before .before .before .before .before .before .before .before .before .before .before .before .before .before .is-free in
+    let at-entry = c .before .before .before .before .before .before .before .before .before .before .before .before .before .before .before .before .before .before .before .before .before .before .before .before .before .before .before in
+    let l = (at-start .kept .1 .1 .0 ∙ at-no-cells .kept .0 ∙ at-clear .kept .0 ∙ at-is-free .kept .1 .0) in
+    let r = (at-entry .pre .0) .room in
+    let i = (at-entry .pre .1) in
+    (omega arith, omega arith)
+
+same-length : tie.Need-same-length
+same-length c =
+    let at-clear2 = c .before .before .clear2 in
+    let at-start = c .before .before .before .before .before .before .before .before .before .before .before .start in
+    let at-no-cells = c .before .before .before .before .before .before .before .before .before .before .before .before .before .before .before .no-cells in
+    let at-clear = c .before .before .before .before .before .before .before .before .before .before .before .before .before .before .before .before .before .before .before .clear in
+    let at-is-free = c .before .before .before .before .before .before .before .before .before .before .before .before .before .before .before .before .before .before .before .before .before .before .before .before .is-free in
+    at-clear2 .kept .0 ∙ (at-start .kept .1 .1 .0 ∙ at-no-cells .kept .0 ∙ at-clear .kept .0 ∙ at-is-free .kept .1 .0)
+
+same-length-2 : tie.Need-same-length-2
+same-length-2 c = search needs
+
+returns : tie.Need-returns
+returns c =
+    let at-entry = c .before .before .before .before .before .before .before .before .before .before .before .before .before .before .before .before .before .before .before .before .before .before .before .before .before .before .before .before .before .before in
+    let at-finish = c .before .before .before .before .before .before .finish in
+    let at-start = c .before .before .before .before .before .before .before .before .before .before .before .start in
+    let at-clear2 = c .before .before .clear2 in
+    let at-no-cells = c .before .before .before .before .before .before .before .before .before .before .before .before .before .before .before .no-cells in
+    let at-clear = c .before .before .before .before .before .before .before .before .before .before .before .before .before .before .before .before .before .before .before .clear in
+    let at-is-free = c .before .before .before .before .before .before .before .before .before .before .before .before .before .before .before .before .before .before .before .before .before .before .before .before .is-free in
+    let at-kept-from = c .before .before .before .before .before .before .before .before .before .before .before .before .before .before .before .before .before .before .before .before .before .kept-from in
+    let r = (at-entry .pre .0) .room in
+    let i = (at-entry .pre .1) in
+    let l = at-finish .ensures (at-entry .args .allowance) (read (grammarOf (at-entry .args .table .now)) (at-entry .args .line .now) (at-entry .args .allowance)) (cleared (at-entry .args .needed) (at-entry .args .work .now)) (at-start .ensures .1) in
+    record {
+      returned = l .returned;
+      working = as-cleared _ _ _ _ (omega arith) (at-clear2 .kept .0 ∙ (at-start .kept .1 .1 .0 ∙ at-no-cells .kept .0 ∙ at-clear .kept .0 ∙ at-is-free .kept .1 .0)) (at-clear2 .ensures) (λ j h. at-start .ensures .0 .past j (omega arith) ∙ past-ready _ _ _ _ _ (at-is-free .result) _ _ _ _ (at-entry .pre .0) (at-entry .pre .1) (at-is-free .ensures .used .same-length) (at-is-free .ensures .used .rest) (at-kept-from .ensures) (at-clear .ensures) (at-no-cells .ensures .0) j h) ∙ l .working;
+      stored = l .stored;
+    }
+
+pub read-line-spec : {M : Type 1} → statement M
+read-line-spec =
+    tie.close
+    (tie.spec
+    is-free-requires
+    mul-kept-from
+    add-kept-from
+    kept-from-requires
+    clear-requires
+    no-cells-requires
+    start-requires
+    finish-requires
+    clear-requires-2
+    same-length
+    same-length-2
+    returns)

@@ -1,0 +1,93 @@
+-- What the steps of a reading promise one another: clearing, decoding, the visits, and how they ended.
+use Prim.Native.Nat.{ℕ, _+_, _-_, _*_, _<_, _≤_}
+use mathlib.Core.Path.{_≡_}
+use mathlib.Core.Bool.{Bool, true}
+use mathlib.Core.List.{List}
+use lib.ListN.{length, getD}
+use Rattle.meaning.specs.Grammar.{Answer, fail, ok}
+use Rattle.meaning.specs.Decide.{isFree}
+use Rattle.meaning.specs.Reading.{State, Run, effort, deep, done}
+use Rattle.sheet.specs.Table.{nodesOf, rulesOf, rootOf, kindOf, aOf, bOf, grammarOf}
+use Rattle.sheet.specs.Check.{Accepted}
+use Rattle.cells.specs.Cells.{treesAt}
+use Rattle.cells.specs.Arena.{Arena}
+use Rattle.visits.specs.Given.{nodesIn, rulesIn, keepsIn, baseIn, allowanceIn, grammarIn}
+use Rattle.visits.specs.Says.{FAILED, STOPPED}
+use Rattle.visits.specs.declared.Visited.{Visited}
+use Rattle.reader.specs.declared.Reading.{Reading}
+use Rattle.reader.specs.Answer.{EFFORT, DEEP, longestLine, mostAllowance, workNeeded, runOutcome, Leaves}
+
+-- The words from one place up to another were written by f, the others are as they were.
+pub record Filled (old new : List ℕ) (from to : ℕ) (f : ℕ → ℕ) : Type 0 where
+  pub long : length new ≡ length old
+  pub written : (i : ℕ) → from ≤ i → i < to → getD new i 0 ≡ f i
+  pub before : (i : ℕ) → i < from → getD new i 0 ≡ getD old i 0
+  pub past : (i : ℕ) → to ≤ i → getD new i 0 ≡ getD old i 0
+
+-- The word of node i of a table.
+abbrev pub nodeWord : List ℕ → ℕ → ℕ
+nodeWord table i = kindOf table i * 16777216 + aOf table i * 4096 + bOf table i
+
+-- The root of the rule whose root stands at word j of the decoded table.
+abbrev pub rootWord : List ℕ → ℕ → ℕ
+rootWord table j = rootOf table (j - 512)
+
+-- The table is decoded for reading.
+pub record Prepared (table : List ℕ) (allowance : ℕ) (free : Bool) (given : List ℕ) : Type 0 where
+  pub grammar : grammarIn given ≡ grammarOf table
+  pub nodes : nodesIn given ≡ nodesOf table
+  pub rules : rulesIn given ≡ rulesOf table
+  pub keeps : keepsIn given ≡ free
+  pub base : baseIn given ≡ 2048 + 4 * allowance
+  pub allowed : allowanceIn given ≡ allowance
+
+-- Nothing turns the call away, and the words are made ready.
+pub record Fitting (table line work : List ℕ) (allowance : ℕ) : Type 0 where
+  pub accepted : Accepted table
+  pub short : length line ≤ longestLine
+  pub allowed : allowance ≤ mostAllowance
+  pub room : workNeeded allowance (nodesOf table) (length line) ≤ length work
+
+pub record Startable (table line work : List ℕ) (allowance : ℕ) (free : Bool) : Type 0 where
+  pub fitting : Fitting table line work allowance
+  pub free-is : free ≡ isFree (grammarOf table)
+  pub arena : Arena work 0
+  pub kept : free ≡ true → (i : ℕ) → 2048 + 4 * allowance ≤ i → i < workNeeded allowance (nodesOf table) (length line) → getD work i 0 ≡ 0
+
+-- A refusal, as a result has it; and the visits left.
+pub record Stopped (allowance code place : ℕ) (v : Visited) (s : State) : Type 0 where
+  pub end : v .end ≡ STOPPED
+  pub list : v .list ≡ code * 4096 + place
+  pub small : place < 4096
+  pub left : s .left + v .made ≡ allowance
+
+pub record Ended (allowance end : ℕ) (v : Visited) (s : State) : Type 0 where
+  pub at : v .end ≡ end
+  pub left : s .left + v .made ≡ allowance
+
+-- A result tells how a run on a line of so many bytes ended.
+abbrev pub Tells : (allowance long : ℕ) (w : List ℕ) (v : Visited) → Run → Type 0
+Tells allowance long w v (effort p s) = Stopped allowance EFFORT p v s
+Tells allowance long w v (deep p s) = Stopped allowance DEEP p v s
+Tells allowance long w v (done fail s) = Ended allowance FAILED v s
+Tells allowance long w v (done (ok e ts) s) = (treesAt w (v .list) ≡ ts) × (e ≤ long) × Ended allowance e v s
+
+-- After the visits: the cells are in order, the numbers small, and what lies past the room is as it was.
+pub record Visiting (allowance long needed : ℕ) (old new : List ℕ) (v : Visited) : Type 0 where
+  pub arena : Arena new (v .top)
+  pub end-most : v .end ≤ FAILED
+  pub end-in : v .end < STOPPED → v .end ≤ long
+  pub list-in : v .end < STOPPED → v .list ≤ v .top
+  pub made-in : v .made ≤ allowance
+  pub past : (i : ℕ) → needed ≤ i → getD new i 0 ≡ getD old i 0
+
+-- What finish needs of a result over the words.
+pub record Finishable (long : ℕ) (w : List ℕ) (v : Visited) : Type 0 where
+  pub arena : Arena w (v .top)
+  pub end-most : v .end ≤ FAILED
+  pub end-in : v .end < STOPPED → v .end ≤ long
+  pub list-in : v .end < STOPPED → v .list ≤ v .top
+
+-- However the run ended, if the result tells it, what was returned and written is its outcome.
+abbrev pub Finished : (whole : Bool) (long : ℕ) (w : List ℕ) (v : Visited) (r : Reading) (old new : List ℕ) → Type 0
+Finished whole long w v r old new = (allowance : ℕ) (m : Run) (work : List ℕ) → Tells allowance long w v m → Leaves (runOutcome whole long allowance m work old) r work new

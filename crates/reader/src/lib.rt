@@ -1,0 +1,317 @@
+// The prefix and the whole-line reading of a line by a sheet's table.
+//
+// In go the table, the line, the allowance, working numbers and room for the stored reading; out come code, place, matched length, visits and
+// records, exactly as 01's table of codes has them (specs/Answer, readingOf). No table, line, allowance or buffer is asked to be good: each
+// refusal is an answer. Codes 1 to 10 change nothing; else the first working numbers, as many as 01's formula says, are zero, and only a
+// reading (code 0) writes the room: the stored reading at its front.
+// The reader relies on the check's promise alone for every node that it visits.
+ghost use mathlib.Core.Path.{_≡_};
+ghost use mathlib.Core.Bool.{true, false, _&&_, cond};
+ghost use mathlib.Core.List.{List};
+ghost use Prim.Native.Nat.{ℕ, _+_, _*_, _<_, _≤_};
+ghost use lib.ListN.{length, getD};
+ghost use lib.Dec.{ltb};
+ghost use Rattle.meaning.specs.Reading.{Run, read};
+ghost use Rattle.sheet.specs.Table.{nodesOf, rulesOf, grammarOf};
+ghost use Rattle.sheet.specs.Check.{Accepted};
+ghost use Rattle.reader.specs.Answer.{numbers, workNeeded, cleared, runOutcome, readingOf, Leaves};
+ghost use Rattle.reader.specs.Steps.{Filled, nodeWord, rootWord, Prepared, Fitting, Startable, Tells, Visiting, Finishable, Finished};
+
+// What a reading returns.
+pub struct Reading {
+    pub code: u64,
+    pub place: u64,
+    pub matched: u64,
+    pub visits: u64,
+    pub records: u64,
+}
+
+pub const LONGEST_LINE: usize = 255;
+
+pub const MOST_ALLOWANCE: u64 = 1000000;
+
+const MOST_RECORDS: u32 = 1000;
+
+// The codes of 01 from LINE on.
+pub const LINE: u64 = 8;
+
+pub const ALLOW: u64 = 9;
+
+pub const WORK: u64 = 10;
+
+pub const EFFORT: u64 = 11;
+
+pub const DEEP: u64 = 12;
+
+pub const FAIL: u64 = 13;
+
+pub const REST: u64 = 14;
+
+pub const RECORDS: u64 = 15;
+
+pub const ROOM: u64 = 16;
+
+// Sets the words from one place up to another to zero.
+fn clear(work: &mut [u32], from: usize, to: usize)
+    requires { ⌜ (from ≤ to) × (to ≤ length (now work)) ⌝ }
+    ensures { λ _. ⌜ Filled (now (work .entry)) (now (work .exit)) from to (λ (i : ℕ). 0) ⌝ }
+{
+    let mut i = from;
+    while i < to {
+        work[i] = 0;
+        i += 1;
+    }
+}
+
+// Node i in one word: kind, field a, field b.
+fn node_word(table: &[u8], i: usize) -> u32
+    requires { ⌜ Accepted (now table) × (i < nodesOf (now table)) ⌝ }
+    ensures { λ r. ⌜ r ≡ nodeWord (now (table .entry)) i ⌝ }
+{
+    let kind = sheet::kind(table, i) as u32;
+    let a = sheet::field_a(table, i) as u32;
+    let b = sheet::field_b(table, i) as u32;
+    kind * 16777216 + a * 4096 + b
+}
+
+fn decode_nodes(table: &[u8], given: &mut [u32; 581])
+    requires { ⌜ Accepted (now table) × (length (now given) ≡ 581) ⌝ }
+    ensures { λ _. ⌜ Filled (now (given .entry)) (now (given .exit)) 0 (nodesOf (now (table .entry))) (nodeWord (now (table .entry))) ⌝ }
+{
+    let n = sheet::node_count(table);
+    let mut i: usize = 0;
+    while i < n {
+        given[i] = node_word(table, i);
+        i += 1;
+    }
+}
+
+fn decode_roots(table: &[u8], given: &mut [u32; 581])
+    requires { ⌜ Accepted (now table) × (length (now given) ≡ 581) ⌝ }
+    ensures { λ _. ⌜ Filled (now (given .entry)) (now (given .exit)) 512 (512 + rulesOf (now (table .entry))) (rootWord (now (table .entry))) ⌝ }
+{
+    let r = sheet::rule_count(table);
+    let mut a: usize = 0;
+    while a < r {
+        given[512 + a] = sheet::root(table, a) as u32;
+        a += 1;
+    }
+}
+
+// 1 for yes.
+fn flag(yes: bool) -> u32
+    ensures { λ r. ⌜ ltb 0 r ≡ yes ⌝ }
+{
+    if yes { 1 } else { 0 }
+}
+
+// Decodes an accepted table for reading.
+fn prepare(table: &[u8], allowance: u32, free: bool, given: &mut [u32; 581])
+    requires { ⌜ (Accepted (now table) × (allowance ≤ 1000000)) × (length (now given) ≡ 581) ⌝ }
+    ensures { λ _. ⌜ Prepared (now (table .entry)) allowance free (now (given .exit)) ⌝ }
+{
+    decode_nodes(table, given);
+    decode_roots(table, given);
+    given[576] = sheet::node_count(table) as u32;
+    given[577] = sheet::rule_count(table) as u32;
+    given[578] = flag(free);
+    given[579] = 2048 + 4 * allowance;
+    given[580] = allowance;
+}
+
+// The use of rule 0 at position 0, which is not itself a visit.
+fn start(table: &[u8], line: &[u8], work: &mut [u32], allowance: u32, free: bool) -> visits::Visited
+    requires { ⌜ Startable (now table) (now line) (now work) allowance free ⌝ }
+    ensures numbers { λ v. ⌜ Visiting allowance (length (now (line .entry))) (workNeeded allowance (nodesOf (now (table .entry))) (length (now (line .entry)))) (now (work .entry)) (now (work .exit)) v ⌝ }
+    ensures tells { λ v. ⌜ Tells allowance (length (now (line .entry))) (now (work .exit)) v (read (grammarOf (now (table .entry))) (now (line .entry)) allowance) ⌝ }
+{
+    let mut given = [0u32; 581];
+    prepare(table, allowance, free, &mut given);
+    visits::use_rule(&given, line, work, 512, 0, 0, 0, 0, 0)
+}
+
+// The whole line is asked for, and the match ends before it does.
+fn unread(whole: bool, end: u64, long: u64) -> bool
+    ensures { λ r. ⌜ r ≡ (whole && ltb end long) ⌝ }
+{
+    if whole {
+        return end < long;
+    }
+    false
+}
+
+// How the visits ended, by 01's rows 11 to 16 and 0; only a reading writes the room.
+fn finish(line: &[u8], work: &[u32], room: &mut [u8], whole: bool, v: visits::Visited) -> Reading
+    requires { ⌜ Finishable (length (now line)) (now work) v × (length (now line) ≤ 255) ⌝ }
+    ensures { λ r. ⌜ Finished whole (length (now (line .entry))) (now (work .entry)) v r (now (room .entry)) (now (room .exit)) ⌝ }
+{
+    let made = v.made as u64;
+    if v.end == visits::STOPPED {
+        let code = v.list / 4096;
+        let place = v.list % 4096;
+        return Reading {
+            code: code as u64,
+            place: place as u64,
+            matched: 0,
+            visits: made,
+            records: 0,
+        };
+    }
+    if v.end == visits::FAILED {
+        return Reading {
+            code: FAIL,
+            place: 0,
+            matched: 0,
+            visits: made,
+            records: 0,
+        };
+    }
+    let end = v.end as u64;
+    if unread(whole, end, line.len() as u64) {
+        return Reading {
+            code: REST,
+            place: end,
+            matched: end,
+            visits: made,
+            records: 0,
+        };
+    }
+    let records = cells::records_of(work, v.list);
+    if MOST_RECORDS < records {
+        return Reading {
+            code: RECORDS,
+            place: end,
+            matched: end,
+            visits: made,
+            records: 1001,
+        };
+    }
+    if room.len() < 5 + 5 * records as usize {
+        return Reading {
+            code: ROOM,
+            place: end,
+            matched: end,
+            visits: made,
+            records: records as u64,
+        };
+    }
+    cells::write(work, room, 1, v.list);
+    Reading {
+        code: 0,
+        place: 0,
+        matched: end,
+        visits: made,
+        records: records as u64,
+    }
+}
+
+// Where clearing of the kept answers starts: they are cleared on entry only where they are used.
+fn kept_from(free: bool, base: usize, needed: usize) -> usize
+    ensures { λ r. ⌜ r ≡ cond free base needed ⌝ }
+{
+    if free {
+        return base;
+    }
+    needed
+}
+
+// Reads a line that nothing turns away; needed is 01's number of working numbers.
+fn read_line(
+    table: &[u8],
+    line: &[u8],
+    allowance: u32,
+    work: &mut [u32],
+    room: &mut [u8],
+    whole: bool,
+    needed: usize,
+) -> Reading
+    requires { ⌜ Fitting (now table) (now line) (now work) allowance × (needed ≡ workNeeded allowance (nodesOf (now table)) (length (now line))) ⌝ }
+    ensures { λ r. ⌜ Leaves (runOutcome whole (length (now (line .entry))) allowance (read (grammarOf (now (table .entry))) (now (line .entry)) allowance) (cleared needed (now (work .entry))) (now (room .entry))) r (now (work .exit)) (now (room .exit)) ⌝ }
+{
+    let free = report::is_free(table, work);
+    let from = kept_from(free, 2048 + 4 * allowance as usize, needed);
+    clear(work, from, needed);
+    cells::no_cells(work);
+    let v = start(table, line, work, allowance, free);
+    let answer = finish(line, work, room, whole, v);
+    clear(work, 0, needed);
+    answer
+}
+
+// A refusal before the line is read: zeros else.
+fn turned_away(code: u64, place: u64) -> Reading
+    ensures { λ r. ⌜ r ≡ numbers code place 0 0 0 ⌝ }
+{
+    Reading {
+        code: code,
+        place: place,
+        matched: 0,
+        visits: 0,
+        records: 0,
+    }
+}
+
+// 01: "2,048 + 4 x allowance + 2 x n x (L + 1)".
+fn work_needed(allowance: usize, nodes: usize, long: usize) -> usize
+    requires { ⌜ (allowance ≤ 1000000) × ((nodes ≤ 512) × (long ≤ 255)) ⌝ }
+    ensures { λ r. ⌜ r ≡ workNeeded allowance nodes long ⌝ }
+{
+    2048 + 4 * allowance + 2 * (nodes * (long + 1))
+}
+
+// 01's checks, in 01's order.
+fn read_by(
+    table: &[u8],
+    line: &[u8],
+    allowance: u64,
+    work: &mut [u32],
+    room: &mut [u8],
+    whole: bool,
+) -> Reading
+    ensures { λ r. ⌜ Leaves (readingOf whole (now (table .entry)) (now (line .entry)) allowance (now (work .entry)) (now (room .entry))) r (now (work .exit)) (now (room .exit)) ⌝ }
+{
+    let v = sheet::check(table);
+    if v.code != sheet::READ {
+        return turned_away(v.code as u64, v.place as u64);
+    }
+    if LONGEST_LINE < line.len() {
+        return turned_away(LINE, 0);
+    }
+    if allowance == 0 {
+        return turned_away(ALLOW, 0);
+    }
+    if MOST_ALLOWANCE < allowance {
+        return turned_away(ALLOW, 0);
+    }
+    let needed = work_needed(allowance as usize, sheet::node_count(table), line.len());
+    if work.len() < needed {
+        return turned_away(WORK, 0);
+    }
+    read_line(table, line, allowance as u32, work, room, whole, needed)
+}
+
+// The prefix reading: the match may end before the line does.
+pub fn read_prefix(
+    table: &[u8],
+    line: &[u8],
+    allowance: u64,
+    work: &mut [u32],
+    room: &mut [u8],
+) -> Reading
+    ensures { λ r. ⌜ Leaves (readingOf false (now (table .entry)) (now (line .entry)) allowance (now (work .entry)) (now (room .entry))) r (now (work .exit)) (now (room .exit)) ⌝ }
+{
+    read_by(table, line, allowance, work, room, false)
+}
+
+// The whole-line reading.
+pub fn read_whole(
+    table: &[u8],
+    line: &[u8],
+    allowance: u64,
+    work: &mut [u32],
+    room: &mut [u8],
+) -> Reading
+    ensures { λ r. ⌜ Leaves (readingOf true (now (table .entry)) (now (line .entry)) allowance (now (work .entry)) (now (room .entry))) r (now (work .exit)) (now (room .exit)) ⌝ }
+{
+    read_by(table, line, allowance, work, room, true)
+}

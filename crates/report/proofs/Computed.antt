@@ -1,0 +1,67 @@
+-- Both masks of a report are those that meaning's Decide computes of the table's grammar.
+use mathlib.Core.Path.{_≡_, refl, sym, ap, _∙_}
+use mathlib.Core.Bool.{Bool, true, false, false≢true}
+use mathlib.Core.List.{List}
+use mathlib.Core.Logic.{_↔_}
+use Prim.Native.Nat.{ℕ, _+_, _≤_, _<_}
+use native.Mathlib.Omega.{arith}
+use borrow.Author.Tests.{ltb-true, ltb-false}
+use lib.Dec.{ltb}
+use lib.ListN.{length, getD, length-map, List·getD-eq-default}
+use Rattle.bits.specs.Mask.{has, maskOf}
+use Rattle.bits.proofs.Laws.{is-mask-of}
+use Rattle.meaning.specs.Grammar.{Grammar}
+use Rattle.meaning.specs.Decide.{emptyRules, reach}
+use Rattle.meaning.proofs.Decided.{empty-iff, recursive-iff}
+use Rattle.sheet.specs.Table.{each, grammarOf}
+use Rattle.sheet.specs.Check.{Accepted}
+use Rattle.sheet.proofs.Accepting.{well-formed, rule-count, closed, length-each, getD-each}
+use Rattle.report.specs.declared.Findings.{Findings}
+use Rattle.report.specs.Report.{MaskOf, Reported}
+use Rattle.report.proofs.Once.{together}
+
+module _ {r : ℕ} {P : ℕ → Type 0} {mask : ℕ} (m : MaskOf r P mask) (few : r ≤ 64) (marks : List Bool) (as-many : length marks ≡ r)
+    (right : (a : ℕ) → a < r → (getD marks a false ≡ true) ↔ P a) where
+  same-bit : (a : ℕ) → has mask a ≡ getD marks a false
+  same-bit a = at (ltb a r) refl
+    where
+      at : (b : Bool) → ltb a r ≡ b → has mask a ≡ getD marks a false
+      at true e =
+          let h = ltb-true a r e in
+          together (has mask a) (getD marks a false) (λ u. right a h .1 (m .sound a u .1)) (λ u. m .complete a h (right a h .0 u))
+      at false e =
+          let h = ltb-false a r e in
+          let none : getD marks a false ≡ false = List·getD-eq-default marks false (omega arith) in
+          together (has mask a) (getD marks a false) (λ u. let l = m .sound a u .0 in absurd (omega arith)) (λ u. absurd (false≢true (sym none ∙ u)))
+
+  marked : mask ≡ maskOf marks
+  marked = is-mask-of 64 mask marks (m .fits) (omega arith) (λ a h. same-bit a)
+
+-- Which rules are left-recursive, rule by rule.
+abbrev recursive : Grammar → ℕ → Bool
+recursive g a = getD (reach g a) a false
+
+unfoldable pub recursiveRules : Grammar → List Bool
+recursiveRules g = each (recursive g) 0 (length (g .roots))
+
+empty-marks : (g : Grammar) → length (emptyRules g) ≡ length (g .roots)
+unfolding emptyRules
+empty-marks g = length-map (g .roots) _
+
+module _ {t : List ℕ} {x : Findings} (reported : Reported t x) (accepted : Accepted t) where
+  few-rules : length (grammarOf t .roots) ≤ 64
+  few-rules = omega (arith, rule-count t, well-formed t accepted .few-rules)
+
+  pub computed-empty : x .«may_be_empty» ≡ maskOf (emptyRules (grammarOf t))
+  computed-empty = marked (reported .may-be-empty accepted) few-rules (emptyRules (grammarOf t)) (empty-marks (grammarOf t)) (empty-iff (grammarOf t) (closed t accepted))
+
+  pub computed-recursive : x .«left_recursive» ≡ maskOf (recursiveRules (grammarOf t))
+  unfolding recursiveRules
+  computed-recursive =
+      marked (reported .left-recursive accepted) few-rules (recursiveRules (grammarOf t)) (length-each _ 0 (length (grammarOf t .roots)))
+      (λ a h.
+      let both = recursive-iff (grammarOf t) (closed t accepted) a h in
+      let e : 0 + a ≡ a = omega arith in
+      let mark : getD (recursiveRules (grammarOf t)) a false ≡ getD (reach (grammarOf t) a) a false =
+      getD-each (recursive (grammarOf t)) 0 (length (grammarOf t .roots)) a false h ∙ ap (recursive (grammarOf t)) e in
+      ((λ u. both .0 (sym mark ∙ u)), (λ d. mark ∙ both .1 d)))

@@ -1,0 +1,9 @@
+pub mod Words
+pub mod Sets
+pub mod Empties
+pub mod Recursion
+pub mod Tables
+pub mod Repeat
+pub mod Once
+pub mod Computed
+pub mod Worked

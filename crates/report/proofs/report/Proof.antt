@@ -1,0 +1,90 @@
+-- A refused table is reported by its code and place alone; an accepted one by both masks.
+use denote.Ref.{now}
+use mathlib.Core.Path.{refl, ap, _∙_}
+use Prim.Native.Nat.{ℕ}
+use native.Mathlib.Omega.{arith}
+use borrow.Author.Needs.{needs}
+use Rattle.bits.proofs.Laws.{count-none, lowest-none}
+use Rattle.sheet.specs.declared.Verdict.{Verdict}
+use Rattle.sheet.specs.Check.{Accepted}
+use Rattle.sheet.proofs.Accepting.{accepted-by}
+use Rattle.report.proofs.Repeat.{settled}
+use Rattle.report.proofs.report.Statement.{statement}
+use Rattle.report.proofs.report.Tie as tie
+
+code : Verdict → ℕ
+code v = v .code
+
+place : Verdict → ℕ
+place v = v .place
+
+-- Past the test the table is accepted.
+accepted : (c : tie.Else1) → Accepted (now (c .before .before .before .before .args .table))
+accepted c = accepted-by _ _ (c .before .before .check .ensures) (c .if1 .left)
+
+check-requires : tie.Need-check-requires
+check-requires c κs = search needs
+
+returns : tie.Need-returns
+unfolding Accepted code place
+returns c =
+    let v = c .before .before .check .ensures in
+    record {
+      code = ap code v;
+      place = ap place v;
+      may-be-empty = λ a. absurd (c .if1 .taken (ap code v ∙ a));
+      left-recursive = λ a. absurd (c .if1 .taken (ap code v ∙ a));
+      how-many = count-none;
+      lowest = lowest-none;
+      refused = λ n. (refl, refl, refl, refl);
+    }
+
+slice-aggregate-empty-rules : tie.Need-slice-aggregate-empty-rules
+slice-aggregate-empty-rules c = search needs
+
+empty-rules-requires : tie.Need-empty-rules-requires
+empty-rules-requires c κs = (accepted (c .before), omega arith)
+
+slice-aggregate-left-rules : tie.Need-slice-aggregate-left-rules
+slice-aggregate-left-rules c = search needs
+
+left-rules-requires : tie.Need-left-rules-requires
+left-rules-requires c κs =
+    let a = accepted (c .before .before .before .before) in
+    let e = c .before .before .empty-rules .ensures in
+    (a, omega (arith, c .before .before .empty-rules .kept .1 .0), settled _ a _ _ (omega arith) (e .0) _ (e .1))
+
+count-requires : tie.Need-count-requires
+count-requires c κs = search needs
+
+lowest-requires : tie.Need-lowest-requires
+lowest-requires c κs = search needs
+
+returns-2 : tie.Need-returns-2
+unfolding code place
+returns-2 c =
+    let a = accepted (c .before .before .before .before .before .before .before) in
+    let v = c .before .before .before .before .before .before .before .before .before .check .ensures in
+    record {
+      code = ap code v;
+      place = ap place v;
+      may-be-empty = λ x. c .before .before .before .before .before .empty-rules .ensures .0;
+      left-recursive = λ x. c .before .before .left-rules .ensures;
+      how-many = c .before .count .ensures;
+      lowest = c .lowest .ensures;
+      refused = λ n. absurd (n a);
+    }
+
+pub report-spec : {M : Type 1} → statement M
+report-spec =
+    tie.close
+    (tie.spec
+    check-requires
+    returns
+    slice-aggregate-empty-rules
+    empty-rules-requires
+    slice-aggregate-left-rules
+    left-rules-requires
+    count-requires
+    lowest-requires
+    returns-2)

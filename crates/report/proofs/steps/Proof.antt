@@ -1,0 +1,74 @@
+-- Each rule's set is filled with the rules at the start of its root.
+use denote.Ref.{now}
+use mathlib.Core.Path.{_≡_, refl, ap}
+use Prim.Native.Nat.{ℕ, _-_, _≤_, _<_}
+use native.Mathlib.Omega.{arith}
+use borrow.Author.Needs.{needs}
+use lib.ListN.{length, getD, length-set}
+use Rattle.sheet.proofs.Accepting.{well-formed, rule-count}
+use Rattle.report.specs.declared.Facts.{Facts}
+use Rattle.report.specs.Pass.{rootFacts}
+use Rattle.report.proofs.Tables.{root-facts}
+use Rattle.report.proofs.Sets.{filled-next}
+use Rattle.report.proofs.steps.Statement.{statement}
+use Rattle.report.proofs.steps.Tie as tie
+
+abbrev Inv-loop : tie.InvT-loop
+Inv-loop table scratch r to₀ a₀ to a = (a ≤ r) × (length to ≡ 64) × ((j : ℕ) → j < a → getD to j 0 ≡ rootFacts table scratch j .starts)
+
+abbrev μ-loop : tie.MeasureT-loop
+μ-loop table scratch r to₀ a₀ to a = r - a
+
+rule-count-requires : tie.Need-rule-count-requires Inv-loop μ-loop
+rule-count-requires c κs = search needs
+
+loop-holds : tie.Need-loop-holds Inv-loop μ-loop
+loop-holds c = (omega arith, refl, λ j h. absurd (omega arith))
+
+root-requires : tie.Need-root-requires Inv-loop μ-loop
+root-requires c κs = search needs
+
+facts-at-requires : tie.Need-facts-at-requires Inv-loop μ-loop
+facts-at-requires c κs = omega (arith, well-formed _ (c .before .before .before .before .before .before .pre .0))
+
+mul-to : tie.Need-mul-to Inv-loop μ-loop
+mul-to c = omega arith
+
+array-write-to : tie.Need-array-write-to Inv-loop μ-loop
+array-write-to c = omega arith
+
+add-a : tie.Need-add-a Inv-loop μ-loop
+add-a c = omega arith
+
+loop-less : tie.Need-loop-less Inv-loop μ-loop
+loop-less c = omega arith
+
+loop-again : tie.Need-loop-again Inv-loop μ-loop
+loop-again c =
+    let l = c .before .before .before .loop in
+    let inv = l .inv in
+    let found = ap (λ (x : Facts). x .starts) (root-facts _ _ (l .a) _ _ (omega arith) (c .before .root .ensures .0) (c .facts-at .ensures)) in (
+      omega arith,
+      simp length-set (inv .1),
+      filled-next (λ j. rootFacts _ _ j .starts) (l .to) (l .a) _ (omega arith) (inv .2) found,
+    )
+
+returns : tie.Need-returns Inv-loop μ-loop
+returns c = (c .before .loop .inv .1, λ a h. c .before .loop .inv .2 a (omega (arith, rule-count (now (c .before .before .before .before .before .args .table)))))
+
+pub steps-spec : {M : Type 1} → statement M
+steps-spec =
+    tie.close
+    (tie.spec
+    Inv-loop
+    μ-loop
+    rule-count-requires
+    loop-holds
+    root-requires
+    facts-at-requires
+    mul-to
+    array-write-to
+    add-a
+    loop-less
+    loop-again
+    returns)

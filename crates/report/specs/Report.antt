@@ -1,0 +1,37 @@
+-- 01, "The report": what it says of a table. Which rules may be empty and which are left-recursive is said in meaning's Report.
+use mathlib.Core.Path.{_≡_}
+use mathlib.Core.Bool.{true}
+use mathlib.Core.List.{List}
+use Prim.Native.Nat.{ℕ, _^_, _<_}
+use lib.ListN.{length}
+use Rattle.bits.specs.Mask.{has, howMany, least}
+use Rattle.meaning.specs.Grammar.{Grammar, root}
+use Rattle.meaning.specs.Report.{MayBeEmpty, LeftRecursive}
+use Rattle.sheet.specs.Table.{grammarOf}
+use Rattle.sheet.specs.Check.{checkOf, Accepted}
+use Rattle.report.specs.declared.Findings.{Findings}
+
+-- 01: "a 64-bit mask of rules [..] (bit i for rule i)": of the first r rules those of which P holds.
+pub record MaskOf (r : ℕ) (P : ℕ → Type 0) (mask : ℕ) : Type 0 where
+  pub fits : mask < 2 ^ 64
+  pub sound : (a : ℕ) → has mask a ≡ true → (a < r) × P a
+  pub complete : (a : ℕ) → a < r → P a → has mask a ≡ true
+
+-- 01: "rules whose root may be empty".
+abbrev pub EmptyRules : Grammar → ℕ → Type 0
+EmptyRules g = MaskOf (length (g .roots)) (λ a. MayBeEmpty g (root g a))
+
+-- 01: "a like mask of left-recursive rules".
+abbrev pub LeftRules : Grammar → ℕ → Type 0
+LeftRules g = MaskOf (length (g .roots)) (LeftRecursive g)
+
+-- 01: "The report gives code, place, [both masks], how many bits are set in the second, and the lowest rule set in it (64 if none).
+-- On a refusal both masks and the number are 0, the lowest is 64."
+pub record Reported (t : List ℕ) (x : Findings) : Type 0 where
+  pub code : x .code ≡ checkOf t .code
+  pub place : x .place ≡ checkOf t .place
+  pub may-be-empty : Accepted t → EmptyRules (grammarOf t) (x .«may_be_empty»)
+  pub left-recursive : Accepted t → LeftRules (grammarOf t) (x .«left_recursive»)
+  pub how-many : x .«how_many» ≡ howMany (has (x .«left_recursive»)) 64
+  pub lowest : x .lowest ≡ least (has (x .«left_recursive»)) 64
+  pub refused : (Accepted t → ⊥) → (x .«may_be_empty» ≡ 0) × (x .«left_recursive» ≡ 0) × (x .«how_many» ≡ 0) × (x .lowest ≡ 64)
