@@ -1,0 +1,155 @@
+-- Demand 2: a line that is read to its answer has the bounded rules' match and tree, the only ones, in the visits that 01 counts. Beyond it: such an answer is found
+-- wherever the allowance and the depth suffice, and there always is one.
+use mathlib.Core.Path.{_≡_, refl, sym, ap, subst, _∙_}
+use mathlib.Core.Bool.{true}
+use mathlib.Core.Logic.{_↔_, _≢_, _⊎_, inl, inr}
+use Prim.Native.Nat.{ℕ, suc, _+_, _<_, _≤_}
+use native.Mathlib.Omega.{arith}
+use lib.ListN.{length}
+use Rattle.meaning.specs.Grammar.{Closed, Answer}
+use Rattle.meaning.specs.Rules.{Reads}
+use Rattle.meaning.specs.Report.{Free}
+use Rattle.meaning.specs.Reading.{State, Run, readBy}
+use Rattle.meaning.proofs.Claims as claims
+use Rattle.meaning.proofs.Claims.{Only}
+use Rattle.meaning.proofs.OneBounded.{one-reading}
+use Rattle.sheet.specs.declared.Verdict.{Verdict}
+use Rattle.sheet.specs.Table.{WellFormed}
+use Rattle.sheet.specs.Check.{READ, checkOf}
+use Rattle.sheet.proofs.Exact.{given-iff, accepted-iff, small-verdict}
+use Rattle.sheet.proofs.Accepting.{closed, rule-count}
+use Rattle.reader.specs.Answer.{EFFORT, DEEP, FAIL, Outcome}
+use Rattle.koskorbelu.specs.Demands.{Call, back, code, visits, grammar, run, made, Ended, fails, rest, records, room, reads, Came, effort, deep, done, Taken, Given, check, line, allow}
+use Rattle.koskorbelu.specs.Demands.{work, taken, Answers, Demand2}
+use Rattle.koskorbelu.proofs.Demand1.{gives, came, given}
+use Rattle.koskorbelu.proofs.Rows.{exactly}
+use Rattle.koskorbelu.proofs.Steady.{done-always}
+
+-- 0, or 13 to 16.
+answering : {k : ℕ} → Answers k → (k ≡ READ) ⊎ (FAIL ≤ k)
+answering Answers.reads = inl refl
+answering Answers.fails = inr (omega arith)
+answering Answers.rest = inr (omega arith)
+answering Answers.records = inr (omega arith)
+answering Answers.room = inr (omega arith)
+
+pub not-answering : {A : Type 0} {k : ℕ} → Answers (suc k) → suc k < FAIL → A
+not-answering {A} {k} h l = by (answering h)
+  where
+    by : (suc k ≡ READ) ⊎ (FAIL ≤ suc k) → A
+    by (inl e) = absurd (omega arith)
+    by (inr m) = absurd (omega arith)
+
+module _ (c : Call) where
+  pub ended-visits : {n : ℕ} {r : Answer} {o : Outcome} → Ended c n r o → visits o ≡ n
+  ended-visits fails = refl
+  ended-visits (rest h) = refl
+  ended-visits (records n h) = refl
+  ended-visits (room n h l) = refl
+  ended-visits (reads n h l) = refl
+
+  pub ended-answers : {n : ℕ} {r : Answer} {o : Outcome} → Ended c n r o → Answers (code o)
+  ended-answers fails = Answers.fails
+  ended-answers (rest h) = Answers.rest
+  ended-answers (records n h) = Answers.records
+  ended-answers (room n h l) = Answers.room
+  ended-answers (reads n h l) = Answers.reads
+
+  pub no-effort : {n : ℕ} {r : Answer} {o : Outcome} → Ended c n r o → code o ≢ EFFORT
+  no-effort h e = not-answering (subst Answers e (ended-answers h)) (omega arith)
+
+  -- The grammar of an accepted table is closed and has a rule.
+  pub is-closed : WellFormed (c .table) → Closed (grammar c)
+  is-closed w = closed (c .table) (accepted-iff (c .table) .1 w)
+
+  pub has-rule : WellFormed (c .table) → 0 < length (grammar c .roots)
+  has-rule w = omega (arith, rule-count (c .table), w .some-rule)
+
+  -- A code of 0 or 13 to 16 says that the line was read.
+  pub was-taken : {o : Outcome} → Given c o → Answers (code o) → Taken c
+  was-taken (check {code = k} h n) a = absurd (not-refused (answering a))
+    where
+      not-refused : (k ≡ READ) ⊎ (FAIL ≤ k) → ⊥
+      not-refused (inl e) = n e
+      not-refused (inr l) = let e : checkOf (c .table) .code ≡ k = ap (λ (v : Verdict). v .code) (given-iff (c .table) .0 h) in omega (arith, small-verdict (c .table) .0)
+  was-taken (line w h) a = not-answering a (omega arith)
+  was-taken (allow w s h) a = not-answering a (omega arith)
+  was-taken (work w s l h) a = not-answering a (omega arith)
+  was-taken (taken t h) a = t
+
+  -- ---- The demand.
+  by-rules : Taken c → {o : Outcome} → back c ≡ o → Came c o → Answers (code o) → Demand2 c (back c)
+  by-rules t q (effort m) a = not-answering a (omega arith)
+  by-rules t q (deep m) a = not-answering a (omega arith)
+  by-rules t {o} q (done {r = r} {s = s} m h) a =
+      let found : (n : ℕ) × Only (grammar c) (c .line) r n = rw m at (claims.read-bounded (grammar c) (c .line) (c .allowance)) in
+      let v : visits o ≡ made c s = ended-visits h in
+      record {
+        answer = r;
+        count = found .0;
+        rules = found .1 .reads;
+        only = λ p k x. let i = found .1 .only p k x in (sym (i .answer), sym (i .count));
+        said = rw q (subst (λ (n : ℕ). Ended c n r o) (sym v) h);
+        others = λ not-free. rw (q, v) (exact-count not-free m (found .1 .reads));
+        kept = λ free. rw (q, v) (kept-count free m);
+      }
+    where
+      exact-count : ¬ Free (grammar c) → {r : Answer} {s : State} {n : ℕ} → run c ≡ Run.done r s → Reads (grammar c) (c .line) r n → made c s ≡ n
+      exact-count not-free {r = r} {s = s} m h =
+          let only : Only (grammar c) (c .line) r (made c s) = rw m at (claims.other-sound (grammar c) (c .line) (c .allowance) (is-closed (t .sheet)) not-free) in
+          one-reading (grammar c) (c .line) (only .reads) h .count
+
+      kept-count : Free (grammar c) → {r : Answer} {s : State} → run c ≡ Run.done r s
+          → (spare : ℕ) → (u : State) × (u .left ≡ spare) × (readBy (grammar c) (c .line) true (made c s + spare) ≡ Run.done r u)
+      kept-count free {r = r} {s = s} m j =
+          let h = done-always (grammar c) (c .line) true (c .allowance) r s (sym (claims.as-free (grammar c) (c .line) (c .allowance) (is-closed (t .sheet)) free) ∙ m) in
+          let e = h .1 in
+          let n : made c s + j ≡ h .0 + j = omega arith in
+          let k = h .2 j (omega arith) in
+          (k .0, k .1, ap (readBy (grammar c) (c .line) true) n ∙ k .2)
+
+  pub demand-2 : Answers (code (back c)) → Demand2 c (back c)
+  demand-2 a = let t = was-taken (given c) a in by-rules t refl (came c t) a
+
+  -- ---- Beyond it.
+  -- Refused for effort, exactly the visits allowed were made; refused for depth, fewer.
+  pub effort-visits : code (back c) ≡ EFFORT → visits (back c) ≡ c .allowance
+  effort-visits e =
+      let h = exactly c EFFORT .0 e in
+      let z : (h .1 .1 .left ≡ 0) × (made c (h .1 .1) ≡ c .allowance) = rw (h .1 .2) at (claims.effort-made (grammar c) (c .line) (c .allowance)) in
+      rw (gives c (taken (h .0) (effort (h .1 .2)))) (z .1)
+
+  pub deep-visits : code (back c) ≡ DEEP → visits (back c) < c .allowance
+  deep-visits e =
+      let h = exactly c DEEP .0 e in
+      let z : (0 < h .1 .1 .left) × (made c (h .1 .1) + h .1 .1 .left ≡ c .allowance) = rw (h .1 .2) at (claims.effort-made (grammar c) (c .line) (c .allowance)) in
+      rw (gives c (taken (h .0) (deep (h .1 .2)))) (omega (arith, z .0, z .1))
+
+  module _ (t : Taken c) (not-free : ¬ Free (grammar c)) {r : Answer} {n : ℕ} (h : Reads (grammar c) (c .line) r n) where
+    -- Where the bounded rules answer in n visits and so many are allowed, that is what comes back, in n visits, or DEEP.
+    pub complete : n ≤ c .allowance → (code (back c) ≡ DEEP) ⊎ Ended c n r (back c)
+    complete le = of (came c t) refl
+      where
+        of : {o : Outcome} → Came c o → back c ≡ o → (code (back c) ≡ DEEP) ⊎ Ended c n r (back c)
+        of (effort m) q = absurd (rw m at (claims.other-complete (grammar c) (c .line) (c .allowance) (is-closed (t .sheet)) not-free h le))
+        of (deep m) q = inl (ap code q)
+        of (done {r = r′} {s = s} m k) q =
+            let z : (r′ ≡ r) × (made c s ≡ n) = rw m at (claims.other-complete (grammar c) (c .line) (c .allowance) (is-closed (t .sheet)) not-free h le) in
+            inr (rw (q, ← (z .0), ← (z .1)) k)
+
+    -- Where the depth suffices, EFFORT comes back exactly if fewer visits are allowed.
+    pub effort-exactly : code (back c) ≢ DEEP → (code (back c) ≡ EFFORT) ↔ (c .allowance < n)
+    effort-exactly shallow = ((λ e. let few : ¬ (n ≤ c .allowance) = λ le. not-both e (complete le) in omega arith), (λ l. of l (came c t) refl))
+      where
+        not-both : code (back c) ≡ EFFORT → (code (back c) ≡ DEEP) ⊎ Ended c n r (back c) → ⊥
+        not-both e (inl d) = omega arith
+        not-both e (inr k) = no-effort k e
+
+        of : c .allowance < n → {o : Outcome} → Came c o → back c ≡ o → code (back c) ≡ EFFORT
+        of l (effort m) q = ap code q
+        of l (deep m) q = absurd (shallow (ap code q))
+        of l (done m k) q = absurd (rw m at (claims.other-short (grammar c) (c .line) (c .allowance) (is-closed (t .sheet)) not-free h l))
+
+  -- Document 003's Lemma 2: every accepted table has an answer on every line.
+  pub answered : WellFormed (c .table) → (r : Answer) × (n : ℕ) × Only (grammar c) (c .line) r n
+  answered w = claims.answered (grammar c) (c .line) (is-closed w) (has-rule w)

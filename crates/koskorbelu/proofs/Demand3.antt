@@ -1,0 +1,75 @@
+-- Demand 3: a free sheet is read within 2 x N x (L + 1) + 1 visits, never refused for effort where so many are allowed, and as the plain rules say.
+use mathlib.Core.Path.{_≡_, refl, sym, subst}
+use mathlib.Core.Logic.{_≢_}
+use Prim.Native.Nat.{ℕ, suc, _+_, _*_, _≤_}
+use native.Mathlib.Nat.{mul-le-mul}
+use native.Mathlib.Omega.{arith}
+use lib.ListN.{length}
+use Rattle.meaning.specs.Grammar.{rule, Answer}
+use Rattle.meaning.specs.Rules.{Plain}
+use Rattle.meaning.specs.Report.{Free}
+use Rattle.meaning.specs.Reading.{State, Run}
+use Rattle.meaning.proofs.Runs.{Ends}
+use Rattle.meaning.proofs.Claims as claims
+use Rattle.meaning.proofs.Ceiling as ceiling
+use Rattle.sheet.specs.Table.{nodesOf, WellFormed}
+use Rattle.sheet.proofs.Accepting.{node-count}
+use Rattle.reader.specs.Answer.{EFFORT, DEEP, longestLine, Outcome}
+use Rattle.koskorbelu.specs.Demands.{Call, back, code, visits, grammar, run, made, bound, Ended, Came, effort, deep, done, Taken, Demand3}
+use Rattle.koskorbelu.proofs.Demand1.{came}
+use Rattle.koskorbelu.proofs.Demand2.{ended-visits, is-closed, has-rule, no-effort}
+
+module _ (c : Call) where
+  same-bound : ceiling.bound (grammar c) (c .line) ≡ bound c
+  same-bound = let e : suc (length (c .line)) ≡ length (c .line) + 1 = omega arith in rw (node-count (c .table), e)
+
+  -- No call needs a larger allowance than this.
+  pub most-bound : WellFormed (c .table) → length (c .line) ≤ longestLine → bound c ≤ 262145
+  most-bound w short =
+      let n : 2 * nodesOf (c .table) ≤ 1024 = omega (arith, w .few-nodes) in
+      let l : length (c .line) + 1 ≤ 256 = omega arith in
+      let p : 2 * nodesOf (c .table) * (length (c .line) + 1) ≤ 1024 * 256 = mul-le-mul n l in
+      omega arith
+
+  module _ (t : Taken c) (free : Free (grammar c)) where
+    abbrev Few : State → Type 0
+    Few s = made c s ≤ bound c
+
+    at-most : Ends Few Few (λ r. Few) (run c)
+    at-most =
+        subst (λ (most : ℕ). Ends (λ s. made c s ≤ most) (λ s. made c s ≤ most) (λ r s. made c s ≤ most) (run c)) same-bound
+        (claims.free-visits (grammar c) (c .line) (c .allowance) (is-closed c (t .sheet)) free (has-rule c (t .sheet)))
+
+    few : {o : Outcome} → Came c o → visits o ≤ bound c
+    few (effort {s = s} m) = let z : Few s = rw m at at-most in z
+    few (deep {s = s} m) = let z : Few s = rw m at at-most in z
+    few (done {s = s} m h) = let z : Few s = rw m at at-most in rw (ended-visits c h) z
+
+    -- Whatever is allowed, and however the reading ends.
+    pub few-visits : visits (back c) ≤ bound c
+    few-visits = few (came c t)
+
+    -- The plain rules' answer, the only one.
+    plain-answer : {r : Answer} {s : State} → run c ≡ Run.done r s
+        → Plain (grammar c) (c .line) (rule 0) 0 r × ((q : Answer) → Plain (grammar c) (c .line) (rule 0) 0 q → q ≡ r)
+    plain-answer {r} m =
+        let z : Plain (grammar c) (c .line) (rule 0) 0 r × ((q : Answer) → Plain (grammar c) (c .line) (rule 0) 0 q → r ≡ q) =
+        rw m at (claims.free-sound (grammar c) (c .line) (c .allowance) (is-closed c (t .sheet)) free) in
+        (z .0, λ q k. sym (z .1 q k))
+
+    module _ (enough : bound c ≤ c .allowance) where
+      never-effort : {o : Outcome} → Came c o → code o ≢ EFFORT
+      never-effort (effort m) e =
+          let le : ceiling.bound (grammar c) (c .line) ≤ c .allowance = rw same-bound enough in
+          rw m at (claims.free-complete (grammar c) (c .line) (c .allowance) (is-closed c (t .sheet)) free (has-rule c (t .sheet)) le)
+      never-effort (deep m) e = omega arith
+      never-effort (done m h) e = no-effort c h e
+
+      plainly : {o : Outcome} → Came c o → code o ≢ DEEP
+          → (r : Answer) × Plain (grammar c) (c .line) (rule 0) 0 r × ((q : Answer) → Plain (grammar c) (c .line) (rule 0) 0 q → q ≡ r) × Ended c (visits o) r o
+      plainly (effort m) n = absurd (never-effort (effort m) refl)
+      plainly (deep m) n = absurd (n refl)
+      plainly (done {r = r} {o = o} m h) n = let z = plain-answer m in (r, z .0, z .1, subst (λ (v : ℕ). Ended c v r o) (sym (ended-visits c h)) h)
+
+      pub demand-3 : Demand3 c (back c)
+      demand-3 = record { never = never-effort (came c t); few = few-visits; plain = plainly (came c t) }

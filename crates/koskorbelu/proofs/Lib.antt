@@ -1,0 +1,12 @@
+pub mod Face
+pub mod Choose
+pub mod Demand1
+pub mod Rows
+pub mod Steady
+pub mod Demand2
+pub mod Demand3
+pub mod Nests
+pub mod Stored
+pub mod Worked
+pub mod Allowance
+pub mod StandIns

@@ -1,0 +1,197 @@
+-- 01's worked lines that are marked P: a single table, under one claim, by computation. The claim is of every working room and every room that is large enough.
+use mathlib.Core.Path.{_≡_, refl, ap, subst, _∙_}
+use mathlib.Core.Bool.{Bool, true, false, _&&_, cond, and-eq-true-iff}
+use mathlib.Core.List.{List, [], _∷_, _++_, map, head-eq-of-cons-eq, tail-eq-of-cons-eq}
+use Prim.Native.Nat.{ℕ, zero, suc, _-_, _≤_}
+use native.Mathlib.Omega.{arith}
+use borrow.Author.Tests.{leb-true, le-ltb}
+use lib.Dec.{leb, ltb}
+use lib.ListN.{length, drop}
+use Rattle.meaning.specs.Grammar.{Trees, fail, ok, wrap, fits, look}
+use Rattle.meaning.specs.Decide.{emptyNodes, ledTo, reach, isFree}
+use Rattle.meaning.specs.Reading.{Run, after, byte, joined, second, otherwise, repeatFrom, repeated, wrapped, apply, longer, attempted, grow, firstAttempt, useLive, keep, counted, useRule}
+use Rattle.meaning.specs.Reading.{recall, visited, visit, readBy, read}
+use Rattle.meaning.specs.Reading as reading
+use Rattle.sheet.specs.Table.{lengthOf, nodesOf, rulesOf, rootOf, formula, kindOf, aOf, bOf, nodeOf, grammarOf}
+use Rattle.sheet.specs.Check.{READ, firstFault, rootFault, fieldsFit, faultOf, nodeFault, checkOf, Accepted}
+use Rattle.sheet.proofs.Exact.{accepted-iff}
+use Rattle.sheet.proofs.Worked.{tableA, tableB}
+use Rattle.stored.specs.Stored.{recordsOf, numberOf, inBytes, recordBytes, treesBytes, storedLength, headBytes, storedOf}
+use Rattle.stored.proofs.Bytes.{length-stored}
+use Rattle.reader.specs.declared.Reading.{Reading}
+use Rattle.reader.specs.Answer.{EFFORT, DEEP, FAIL, REST, RECORDS, mostRecords, longestLine, mostAllowance, positionWidth, Outcome, numbers, cleared, matchOutcome, runOutcome}
+use Rattle.koskorbelu.specs.Demands.{Call, back, run, needed, bound, Taken}
+use Rattle.koskorbelu.proofs.Choose.{by-test-twice}
+use Rattle.koskorbelu.proofs.Demand1.{by-run}
+
+-- A worked line: what is asked and lent, the five numbers that come back, and the bytes stored.
+pub record Line : Type 0 where
+  pub whole : Bool
+  pub table : List ℕ
+  pub line : List ℕ
+  pub allowance : ℕ
+  pub numbers : Reading
+  pub stored : List ℕ
+
+abbrev pub call : Line → (work room : List ℕ) → Call
+call l work room = record { whole = l .whole; table = l .table; line = l .line; allowance = l .allowance; work = work; room = room }
+
+-- The claim.
+abbrev pub Holds : Line → Type 0
+Holds l = (work room : List ℕ) → needed (call l work room) ≤ length work → length (l .stored) ≤ length room
+    → back (call l work room) ≡ record { reading = l .numbers; work = cleared (needed (call l work room)) work; room = l .stored ++ drop (length (l .stored)) room }
+
+abbrev pub AllHold : List Line → Type 0
+AllHold [] = Unit {0}
+AllHold (l ∷ ls) = Holds l × AllHold ls
+
+-- 01's sheets A and B are tables of the crate sheet. B with its choice turned round: node 4 is choice 0 3.
+abbrev pub turned : List ℕ
+turned =
+    1 ∷ 0 ∷ 41 ∷ 0 ∷ 6 ∷ 0 ∷ 2
+    ∷ 0 ∷ 4 ∷ 0 ∷ 5
+    ∷ 2 ∷ 0 ∷ 1 ∷ 0 ∷ 0 ∷ 1 ∷ 0 ∷ 44 ∷ 0 ∷ 44 ∷ 3 ∷ 0 ∷ 1 ∷ 0 ∷ 0 ∷ 3 ∷ 0 ∷ 0 ∷ 0 ∷ 2 ∷ 4 ∷ 0 ∷ 0 ∷ 0 ∷ 3 ∷ 1 ∷ 0 ∷ 48 ∷ 0 ∷ 57 ∷ []
+
+-- S <- !S 'a'.
+abbrev pub denied : List ℕ
+denied =
+    1 ∷ 0 ∷ 29 ∷ 0 ∷ 4 ∷ 0 ∷ 1
+    ∷ 0 ∷ 3
+    ∷ 2 ∷ 0 ∷ 0 ∷ 0 ∷ 0 ∷ 5 ∷ 0 ∷ 0 ∷ 0 ∷ 0 ∷ 1 ∷ 0 ∷ 97 ∷ 0 ∷ 97 ∷ 3 ∷ 0 ∷ 1 ∷ 0 ∷ 2 ∷ []
+
+-- Nine rules, each the next one twice (one rule node used twice), the last empty; and ten.
+abbrev pub nine : List ℕ
+nine =
+    1 ∷ 0 ∷ 110 ∷ 0 ∷ 17 ∷ 0 ∷ 9
+    ∷ 0 ∷ 1 ∷ 0 ∷ 3 ∷ 0 ∷ 5 ∷ 0 ∷ 7 ∷ 0 ∷ 9 ∷ 0 ∷ 11 ∷ 0 ∷ 13 ∷ 0 ∷ 15 ∷ 0 ∷ 16
+    ∷ 2 ∷ 0 ∷ 1 ∷ 0 ∷ 0 ∷ 3 ∷ 0 ∷ 0 ∷ 0 ∷ 0 ∷ 2 ∷ 0 ∷ 2 ∷ 0 ∷ 0 ∷ 3 ∷ 0 ∷ 2 ∷ 0 ∷ 2 ∷ 2 ∷ 0 ∷ 3 ∷ 0 ∷ 0 ∷ 3 ∷ 0 ∷ 4 ∷ 0 ∷ 4 ∷ 2 ∷ 0 ∷ 4 ∷ 0 ∷ 0 ∷ 3 ∷ 0 ∷ 6 ∷ 0 ∷ 6
+    ∷ 2 ∷ 0 ∷ 5 ∷ 0 ∷ 0 ∷ 3 ∷ 0 ∷ 8 ∷ 0 ∷ 8 ∷ 2 ∷ 0 ∷ 6 ∷ 0 ∷ 0 ∷ 3 ∷ 0 ∷ 10 ∷ 0 ∷ 10 ∷ 2 ∷ 0 ∷ 7 ∷ 0 ∷ 0 ∷ 3 ∷ 0 ∷ 12 ∷ 0 ∷ 12 ∷ 2 ∷ 0 ∷ 8 ∷ 0 ∷ 0 ∷ 3 ∷ 0 ∷ 14 ∷ 0 ∷ 14
+    ∷ 0 ∷ 0 ∷ 0 ∷ 0 ∷ 0 ∷ []
+
+abbrev pub ten : List ℕ
+ten =
+    1 ∷ 0 ∷ 122 ∷ 0 ∷ 19 ∷ 0 ∷ 10
+    ∷ 0 ∷ 1 ∷ 0 ∷ 3 ∷ 0 ∷ 5 ∷ 0 ∷ 7 ∷ 0 ∷ 9 ∷ 0 ∷ 11 ∷ 0 ∷ 13 ∷ 0 ∷ 15 ∷ 0 ∷ 17 ∷ 0 ∷ 18
+    ∷ 2 ∷ 0 ∷ 1 ∷ 0 ∷ 0 ∷ 3 ∷ 0 ∷ 0 ∷ 0 ∷ 0 ∷ 2 ∷ 0 ∷ 2 ∷ 0 ∷ 0 ∷ 3 ∷ 0 ∷ 2 ∷ 0 ∷ 2 ∷ 2 ∷ 0 ∷ 3 ∷ 0 ∷ 0 ∷ 3 ∷ 0 ∷ 4 ∷ 0 ∷ 4 ∷ 2 ∷ 0 ∷ 4 ∷ 0 ∷ 0 ∷ 3 ∷ 0 ∷ 6 ∷ 0 ∷ 6
+    ∷ 2 ∷ 0 ∷ 5 ∷ 0 ∷ 0 ∷ 3 ∷ 0 ∷ 8 ∷ 0 ∷ 8 ∷ 2 ∷ 0 ∷ 6 ∷ 0 ∷ 0 ∷ 3 ∷ 0 ∷ 10 ∷ 0 ∷ 10 ∷ 2 ∷ 0 ∷ 7 ∷ 0 ∷ 0 ∷ 3 ∷ 0 ∷ 12 ∷ 0 ∷ 12 ∷ 2 ∷ 0 ∷ 8 ∷ 0 ∷ 0 ∷ 3 ∷ 0 ∷ 14 ∷ 0 ∷ 14
+    ∷ 2 ∷ 0 ∷ 9 ∷ 0 ∷ 0 ∷ 3 ∷ 0 ∷ 16 ∷ 0 ∷ 16 ∷ 0 ∷ 0 ∷ 0 ∷ 0 ∷ 0 ∷ []
+
+-- The records of such rules, from rule a on, with k below it.
+abbrev pub twice : (k a : ℕ) → List ℕ
+twice zero a = a ∷ 0 ∷ 0 ∷ 0 ∷ 0 ∷ []
+twice (suc k) a = twice k (suc a) ++ (twice k (suc a) ++ (a ∷ 0 ∷ 0 ∷ 0 ∷ 2 ∷ []))
+
+abbrev case : (whole : Bool) (table line : List ℕ) (allowance : ℕ) → Reading → (stored : List ℕ) → Line
+case whole table line allowance numbers stored = record { whole = whole; table = table; line = line; allowance = allowance; numbers = numbers; stored = stored }
+
+-- B on `1,5`.
+abbrev pub commaLine : Line
+commaLine = case true tableB (49 ∷ 44 ∷ 53 ∷ []) 2500 (numbers READ 0 3 8 3) (1 ∷ 0 ∷ 20 ∷ 0 ∷ 3 ∷ 1 ∷ 0 ∷ 1 ∷ 0 ∷ 0 ∷ 1 ∷ 2 ∷ 3 ∷ 0 ∷ 0 ∷ 0 ∷ 0 ∷ 3 ∷ 0 ∷ 2 ∷ [])
+
+-- Bytes of `7+2`, `7`, `+`, `7+`; of `1,5`, `1`; of `a`. A line that 01 gives no allowance has the program's, 2,500.
+-- The numbers are code, place, matched, visits, records.
+unfoldable pub worked : List Line
+worked =
+    case true tableA (55 ∷ 43 ∷ 50 ∷ []) 2500 (numbers READ 0 3 22 4)
+    (1 ∷ 0 ∷ 25 ∷ 0 ∷ 4 ∷ 1 ∷ 0 ∷ 1 ∷ 0 ∷ 0 ∷ 0 ∷ 0 ∷ 1 ∷ 0 ∷ 1 ∷ 1 ∷ 2 ∷ 3 ∷ 0 ∷ 0 ∷ 0 ∷ 0 ∷ 3 ∷ 0 ∷ 2 ∷ [])
+    ∷ case true tableA (55 ∷ 43 ∷ 50 ∷ []) 22 (numbers READ 0 3 22 4)
+    (1 ∷ 0 ∷ 25 ∷ 0 ∷ 4 ∷ 1 ∷ 0 ∷ 1 ∷ 0 ∷ 0 ∷ 0 ∷ 0 ∷ 1 ∷ 0 ∷ 1 ∷ 1 ∷ 2 ∷ 3 ∷ 0 ∷ 0 ∷ 0 ∷ 0 ∷ 3 ∷ 0 ∷ 2 ∷ [])
+    ∷ case true tableA (55 ∷ 43 ∷ 50 ∷ []) 21 (numbers EFFORT 0 0 21 0) []
+    ∷ case true tableA (55 ∷ []) 2500 (numbers READ 0 1 14 2) (1 ∷ 0 ∷ 15 ∷ 0 ∷ 2 ∷ 1 ∷ 0 ∷ 1 ∷ 0 ∷ 0 ∷ 0 ∷ 0 ∷ 1 ∷ 0 ∷ 1 ∷ [])
+    ∷ case true tableA [] 2500 (numbers FAIL 0 0 5 0) []
+    ∷ case true tableA (43 ∷ []) 2500 (numbers FAIL 0 0 5 0) []
+    ∷ case false tableA (55 ∷ 43 ∷ []) 2500 (numbers READ 0 1 16 2) (1 ∷ 0 ∷ 15 ∷ 0 ∷ 2 ∷ 1 ∷ 0 ∷ 1 ∷ 0 ∷ 0 ∷ 0 ∷ 0 ∷ 1 ∷ 0 ∷ 1 ∷ [])
+    ∷ case true tableA (55 ∷ 43 ∷ []) 2500 (numbers REST 1 1 16 0) []
+    ∷ commaLine
+    ∷ case true tableB (49 ∷ []) 2500 (numbers READ 0 1 7 2) (1 ∷ 0 ∷ 15 ∷ 0 ∷ 2 ∷ 1 ∷ 0 ∷ 1 ∷ 0 ∷ 0 ∷ 0 ∷ 0 ∷ 1 ∷ 0 ∷ 1 ∷ [])
+    ∷ case true turned (49 ∷ 44 ∷ 53 ∷ []) 2500 (numbers REST 1 1 3 0) []
+    ∷ case true denied (97 ∷ []) 2500 (numbers READ 0 1 7 1) (1 ∷ 0 ∷ 10 ∷ 0 ∷ 1 ∷ 0 ∷ 0 ∷ 1 ∷ 0 ∷ 0 ∷ [])
+    ∷ case true nine [] 2500 (numbers READ 0 0 25 511) (1 ∷ 10 ∷ 0 ∷ 1 ∷ 255 ∷ twice 8 0)
+    ∷ case true ten [] 2500 (numbers RECORDS 0 0 28 1001) []
+    ∷ []
+
+-- ---- The claim, from what computes.
+-- What comes back, and what is stored, where the room is large enough.
+pub record Stored : Type 0 where
+  pub numbers : Reading
+  pub bytes : List ℕ
+
+abbrev only : Reading → Stored
+only r = record { numbers = r; bytes = [] }
+
+unfoldable matched : (whole : Bool) (long e : ℕ) → Trees → (visits : ℕ) → Stored
+matched whole long e ts visits =
+    cond (whole && ltb e long) (only (numbers REST e e visits 0))
+    (cond (ltb mostRecords (recordsOf ts)) (only (numbers RECORDS e e visits 1001)) (record { numbers = numbers READ 0 e visits (recordsOf ts); bytes = storedOf positionWidth ts }))
+
+unfoldable roomy : (whole : Bool) (long allowance : ℕ) → Run → Stored
+roomy whole long allowance (Run.effort p s) = only (numbers EFFORT p 0 (allowance - s .left) 0)
+roomy whole long allowance (Run.deep p s) = only (numbers DEEP p 0 (allowance - s .left) 0)
+roomy whole long allowance (Run.done fail s) = only (numbers FAIL 0 0 (allowance - s .left) 0)
+roomy whole long allowance (Run.done (ok e ts) s) = matched whole long e ts (allowance - s .left)
+
+-- An outcome has these numbers, and leaves these working numbers and these bytes at the room's front.
+abbrev Same : (work room : List ℕ) → Stored → Outcome → Type 0
+Same work room s o = length (s .bytes) ≤ length room → o ≡ record { reading = s .numbers; work = work; room = s .bytes ++ drop (length (s .bytes)) room }
+
+module _ (whole : Bool) (long : ℕ) (work room : List ℕ) where
+  of-match : (e : ℕ) (ts : Trees) (visits : ℕ) → Same work room (matched whole long e ts visits) (matchOutcome whole long e ts visits work room)
+  unfolding matched matchOutcome
+  of-match e ts visits =
+      let l : length (storedOf positionWidth ts) ≡ storedLength positionWidth (recordsOf ts) = length-stored positionWidth ts in
+      by-test-twice (Same work room) (whole && ltb e long) _ _ _ _ (λ h. refl)
+      (by-test-twice (Same work room) (ltb mostRecords (recordsOf ts)) _ _ _ _ (λ h. refl) (λ h. rw (le-ltb (length room) (storedLength positionWidth (recordsOf ts)) (omega arith), l)))
+
+  of-run : (allowance : ℕ) (m : Run) → Same work room (roomy whole long allowance m) (runOutcome whole long allowance m work room)
+  unfolding roomy runOutcome
+  of-run allowance (Run.effort p s) h = refl
+  of-run allowance (Run.deep p s) h = refl
+  of-run allowance (Run.done fail s) h = refl
+  of-run allowance (Run.done (ok e ts) s) h = of-match e ts (allowance - s .left) h
+
+-- What computes of a line: the check's code, whether the line and the allowance are in range, and what comes back.
+record Computed : Type 0 where
+  code : ℕ
+  small : Bool
+  came : Stored
+
+abbrev computed : Line → Computed
+computed l =
+    record {
+      code = checkOf (l .table) .code;
+      small = leb (length (l .line)) longestLine && leb 1 (l .allowance) && leb (l .allowance) mostAllowance;
+      came = roomy (l .whole) (length (l .line)) (l .allowance) (read (grammarOf (l .table)) (l .line) (l .allowance));
+    }
+
+abbrev wanted : Line → Computed
+wanted l = record { code = READ; small = true; came = record { numbers = l .numbers; bytes = l .stored } }
+
+holds : (l : Line) → computed l ≡ wanted l → Holds l
+unfolding Accepted
+holds l h work room lent large =
+    let e : checkOf (l .table) .code ≡ READ = ap (λ (x : Computed). x .code) h in
+    let q = and-eq-true-iff _ _ .0 (ap (λ (x : Computed). x .small) h) in
+    let p = and-eq-true-iff _ _ .0 (q .0) in
+    let some : 1 ≤ l .allowance = leb-true _ _ (p .1) in
+    let t : Taken (call l work room) =
+    record { sheet = accepted-iff (l .table) .0 e; short = leb-true _ _ (p .0); allowed = (λ e. omega arith, leb-true _ _ (q .1)); lent = lent } in
+    let m = run (call l work room) in
+    let w = cleared (needed (call l work room)) work in
+    by-run (call l work room) t refl
+    ∙ subst (λ (s : Stored). Same w room s (runOutcome (l .whole) (length (l .line)) (l .allowance) m w room)) (ap (λ (x : Computed). x .came) h)
+    (of-run (l .whole) (length (l .line)) w room (l .allowance) m) large
+
+all-hold : (ls : List Line) → map computed ls ≡ map wanted ls → AllHold ls
+all-hold [] h = tt
+all-hold (l ∷ ls) h = (holds l (head-eq-of-cons-eq h), all-hold ls (tail-eq-of-cons-eq h))
+
+all-computed : map computed worked ≡ map wanted worked
+unfolding worked roomy matched wrap fits look after byte joined second otherwise reading.denied repeatFrom repeated wrapped apply longer attempted grow firstAttempt useLive keep
+    counted useRule recall visited visit readBy read emptyNodes ledTo reach isFree checkOf firstFault rootFault nodeFault faultOf fieldsFit lengthOf
+    nodesOf rulesOf rootOf formula kindOf aOf bOf nodeOf grammarOf recordsOf numberOf inBytes recordBytes treesBytes headBytes storedOf
+all-computed = refl
+
+-- With demand 3's bound for B on `1,5`.
+pub worked-lines : AllHold worked × ((work room : List ℕ) → bound (call commaLine work room) ≡ 49)
+unfolding nodesOf
+worked-lines = (all-hold worked all-computed, λ work room. refl)
