@@ -36,6 +36,22 @@ pub struct Lending {
     pub fill: u8,
 }
 
+impl Lending {
+    /// The working numbers before the call.
+    pub fn work(&self) -> Vec<u32> {
+        (0..u64::from(self.work))
+            .map(|i| ((u64::from(self.fill) * 257 + i * 31 + 1) % 65_537) as u32)
+            .collect()
+    }
+
+    /// The room before the call.
+    pub fn room(&self) -> Vec<u8> {
+        (0..u64::from(self.room))
+            .map(|i| ((u64::from(self.fill) + i * 7) % 256) as u8)
+            .collect()
+    }
+}
+
 impl Command {
     pub fn encode(&self, stream: &mut Vec<u8>) {
         match self {

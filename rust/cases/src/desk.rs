@@ -102,13 +102,8 @@ impl Desk {
     }
 
     fn read(&self, lending: &Lending) -> Vec<u64> {
-        let fill = u64::from(lending.fill);
-        let mut work: Vec<u32> = (0..u64::from(lending.work))
-            .map(|i| ((fill * 257 + i * 31 + 1) % 65_537) as u32)
-            .collect();
-        let mut room: Vec<u8> = (0..u64::from(lending.room))
-            .map(|i| ((fill + i * 7) % 256) as u8)
-            .collect();
+        let mut work = lending.work();
+        let mut room = lending.room();
         let answer = (self.readers.read)(
             &self.table,
             &self.line,

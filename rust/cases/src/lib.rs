@@ -15,13 +15,15 @@ mod records;
 mod sheet;
 mod soup;
 mod textbook;
+mod worked;
 
-pub use command::{decode, Command};
+pub use command::{decode, Command, Lending};
 pub use desk::{run, Desk, Readers};
 pub use maker::{Cases, Tally};
 pub use random::Random;
 pub use sheet::Sheet;
 pub use textbook::{sheet_a, sheet_b, sum_sheet};
+pub use worked::text as worked_text;
 
 use maker::Maker;
 

@@ -32,7 +32,7 @@ pub fn sheet_b() -> Sheet {
 }
 
 /// Sheet B with its choice turned round.
-fn sheet_b_turned_round() -> Sheet {
+pub fn sheet_b_turned_round() -> Sheet {
     sheet_b_with(|sheet, d, pair| sheet.choice(d, pair))
 }
 
@@ -74,7 +74,7 @@ pub fn sum_sheet() -> Sheet {
 }
 
 /// E <- E '+' E / [0-9]
-fn both_sides() -> Sheet {
+pub fn both_sides() -> Sheet {
     let mut sheet = Sheet::new();
     let e = sheet.rule(0);
     let plus = sheet.byte(b'+');
@@ -138,7 +138,7 @@ fn left_under_right() -> Sheet {
 }
 
 /// S <- !S 'a'
-fn not_itself() -> Sheet {
+pub fn not_itself() -> Sheet {
     let mut sheet = Sheet::new();
     let s = sheet.rule(0);
     let not = sheet.not(s);

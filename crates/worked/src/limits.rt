@@ -1,0 +1,89 @@
+// The limits of line, room, working numbers, allowance and open visits, and the order in which they are tested.
+use crate::build;
+use crate::say;
+use crate::say::Asked;
+use crate::sheets;
+
+pub(crate) fn line_length() {
+    let mut table = [0u8; build::SPACE];
+    let s = sheets::letters(&mut table);
+    let line = [b'a'; 256];
+    let most = text::front(&line, 255);
+    say::whole(b"S <- 'a'* on 255 bytes", &table, s, most, 2_500);
+    say::whole(b"S <- 'a'* on 256 bytes", &table, s, &line, 2_500);
+}
+
+// A on 7+2 makes 22 visits and stores 25 bytes. The formula then gives 2,048 + 4 x 22 + 2 x 7 x 4 = 2,192.
+fn lent_to_a(name: &[u8], numbers: usize, room: usize) {
+    let mut table = [0u8; build::SPACE];
+    let a = sheets::a(&mut table);
+    let asked = Asked {
+        whole: false,
+        allowance: 22,
+        numbers,
+        room,
+    };
+    say::reading(name, &[], &table, a, b"7+2", asked);
+}
+
+pub(crate) fn room() {
+    lent_to_a(b"A on 7+2, room 25", 2_192, 25);
+    lent_to_a(b"A on 7+2, room 24", 2_192, 24);
+    lent_to_a(b"A on 7+2, no room", 2_192, 0);
+}
+
+pub(crate) fn working_numbers() {
+    lent_to_a(b"A on 7+2, working numbers 2192", 2_192, 25);
+    lent_to_a(b"A on 7+2, working numbers 2191", 2_191, 25);
+    lent_to_a(b"A on 7+2, no working numbers", 0, 25);
+}
+
+// For 1,000,000 visits the working numbers are too few here, and are lent in full for a tenth of them.
+pub(crate) fn allowance() {
+    let mut table = [0u8; build::SPACE];
+    let a = sheets::a(&mut table);
+    say::prefix(b"A on 7, allowance 0", &table, a, b"7", 0);
+    say::prefix(b"A on 7, allowance 1", &table, a, b"7", 1);
+    say::prefix(b"A on 7, allowance 1000000", &table, a, b"7", 1_000_000);
+    say::prefix(b"A on 7, allowance 1000001", &table, a, b"7", 1_000_001);
+    say::prefix(b"A on 7, allowance 2^64 - 1", &table, a, b"7", u64::MAX);
+    say::large(b"A on 7+2, allowance 100000", &table, a, b"7+2", 100_000);
+}
+
+// 500 nots over 'a'*. On so many bytes of 'a' the most visits are open when the range fails at the line's end: the nots,
+// one more repetition than bytes, and the range. That makes 502 and the bytes.
+fn nots_on(name: &[u8], count: usize, allowance: u64) {
+    let mut table = [0u8; build::SPACE];
+    let length = sheets::nots(&mut table);
+    let line = [b'a'; 11];
+    let line = text::front(&line, count);
+    say::prefix(name, &table, length, line, allowance);
+}
+
+pub(crate) fn open_visits() {
+    nots_on(b"511 open visits", 9, 550);
+    nots_on(b"512 open visits", 10, 550);
+    nots_on(b"513 open visits", 11, 550);
+    // Where the allowance is spent as well, that is named.
+    nots_on(b"513 open visits, allowance 523", 11, 523);
+}
+
+// Too long a line, no allowance and no working numbers: the first of these is named.
+fn nothing_lent_to_a(name: &[u8], line: &[u8], allowance: u64) {
+    let mut table = [0u8; build::SPACE];
+    let a = sheets::a(&mut table);
+    let asked = Asked {
+        whole: false,
+        allowance,
+        numbers: 0,
+        room: 0,
+    };
+    say::reading(name, &[], &table, a, line, asked);
+}
+
+pub(crate) fn order() {
+    let line = [b'7'; 256];
+    nothing_lent_to_a(b"A on 256 bytes, allowance 0, nothing lent", &line, 0);
+    nothing_lent_to_a(b"A on 7, allowance 0, nothing lent", b"7", 0);
+    nothing_lent_to_a(b"A on 7, allowance 1, nothing lent", b"7", 1);
+}

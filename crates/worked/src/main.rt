@@ -1,0 +1,26 @@
+// Runs every worked line and every limit, and prints one line of text for each case.
+mod build;
+mod limits;
+mod lines;
+mod say;
+mod sheets;
+mod tables;
+
+fn main() {
+    lines::sheet_a();
+    lines::sheet_b();
+    lines::other_sheets();
+    lines::doubling();
+    limits::line_length();
+    limits::room();
+    limits::working_numbers();
+    limits::allowance();
+    limits::open_visits();
+    limits::order();
+    tables::counts();
+    tables::cuts();
+    tables::roots();
+    tables::kinds();
+    tables::fields();
+    tables::order();
+}

@@ -1,0 +1,116 @@
+// The sheets of the worked lines; each gives its table's length.
+use crate::build::Table;
+use crate::build::choice;
+use crate::build::head;
+use crate::build::not;
+use crate::build::range;
+use crate::build::rep;
+use crate::build::root;
+use crate::build::rule;
+use crate::build::seq;
+ghost use Prim.Native.Nat.{_≤_, _<_};
+
+// S <- S '+' D / D; D <- [0-9]
+pub(crate) fn a(table: &mut Table) -> usize {
+    let length = head(table, 7, 2);
+    root(table, 0, 5);
+    root(table, 1, 6);
+    rule(table, 0, 0);
+    range(table, 1, 43, 43);
+    rule(table, 2, 1);
+    seq(table, 3, 1, 2);
+    seq(table, 4, 0, 3);
+    choice(table, 5, 4, 2);
+    range(table, 6, 48, 57);
+    length
+}
+
+// N <- D ',' D / D; D <- [0-9]
+pub(crate) fn b(table: &mut Table) -> usize {
+    let length = head(table, 6, 2);
+    root(table, 0, 4);
+    root(table, 1, 5);
+    rule(table, 0, 1);
+    range(table, 1, 44, 44);
+    seq(table, 2, 1, 0);
+    seq(table, 3, 0, 2);
+    choice(table, 4, 3, 0);
+    range(table, 5, 48, 57);
+    length
+}
+
+// Turns the choice of sheet B round.
+pub(crate) fn turn_round(table: &mut Table) {
+    choice(table, 4, 0, 3);
+}
+
+// S <- !S 'a'
+pub(crate) fn not_itself(table: &mut Table) -> usize {
+    let length = head(table, 4, 1);
+    root(table, 0, 3);
+    rule(table, 0, 0);
+    not(table, 1, 0);
+    range(table, 2, 97, 97);
+    seq(table, 3, 1, 2);
+    length
+}
+
+// E <- E '+' E / [0-9]
+pub(crate) fn both_sides(table: &mut Table) -> usize {
+    let length = head(table, 6, 1);
+    root(table, 0, 5);
+    rule(table, 0, 0);
+    range(table, 1, 43, 43);
+    seq(table, 2, 1, 0);
+    seq(table, 3, 0, 2);
+    range(table, 4, 48, 57);
+    choice(table, 5, 3, 4);
+    length
+}
+
+// Sum <- Sum '-' Digit / Digit; Digit <- [0-9]
+pub(crate) fn difference(table: &mut Table) -> usize {
+    let length = a(table);
+    range(table, 1, 45, 45);
+    length
+}
+
+// S <- 'a'*
+pub(crate) fn letters(table: &mut Table) -> usize {
+    let length = head(table, 2, 1);
+    root(table, 0, 1);
+    range(table, 0, 97, 97);
+    rep(table, 1, 0);
+    length
+}
+
+// 500 nots, one in the other, over 'a'*.
+pub(crate) fn nots(table: &mut Table) -> usize {
+    let length = head(table, 502, 1);
+    root(table, 0, 501);
+    range(table, 0, 97, 97);
+    rep(table, 1, 0);
+    let mut i = 2;
+    while i < 502 {
+        not(table, i, i - 1);
+        i += 1;
+    }
+    length
+}
+
+// So many rules, each the next one twice, the last empty. Node 0 is the last one's root. Rule q has two nodes, the use of
+// the next rule and, as its root, the sequence of that use and itself.
+pub(crate) fn doubling(table: &mut Table, rules: usize) -> usize
+    requires { ⌜ (0 < rules) × (rules ≤ 64) ⌝ }
+{
+    let length = head(table, 2 * rules - 1, rules);
+    let mut q = 0;
+    while q < rules - 1 {
+        let top = 2 * (rules - 1 - q);
+        root(table, q, top);
+        rule(table, top - 1, q + 1);
+        seq(table, top, top - 1, top - 1);
+        q += 1;
+    }
+    length
+}

@@ -1,0 +1,394 @@
+//! Every worked line and every limit of the exact rules, with the independent
+//! reader's answers: the text that the program `worked` prints.
+
+use std::fmt::Write;
+
+use crate::sheet::Sheet;
+use crate::textbook::{both_sides, not_itself, sheet_a, sheet_b, sheet_b_turned_round};
+
+/// What a reading is asked for, and lent.
+#[derive(Clone, Copy)]
+struct Asked {
+    whole: bool,
+    allowance: u64,
+    numbers: usize,
+    room: usize,
+}
+
+/// A prefix reading with the program's lendings.
+fn prefix(allowance: u64) -> Asked {
+    Asked {
+        whole: false,
+        allowance,
+        numbers: 16_384,
+        room: 5_005,
+    }
+}
+
+/// A whole-line reading with the program's lendings.
+fn whole(allowance: u64) -> Asked {
+    Asked {
+        whole: true,
+        ..prefix(allowance)
+    }
+}
+
+/// One line for each case: its name, then the numbers of its answer, and a
+/// stored reading's bytes.
+struct Page(String);
+
+impl Page {
+    fn say(&mut self, name: &str, numbers: &[u64], stored: &[u8]) {
+        write!(self.0, "{name}:").unwrap();
+        for number in numbers {
+            write!(self.0, " {number}").unwrap();
+        }
+        if !stored.is_empty() {
+            self.0.push(' ');
+        }
+        for byte in stored {
+            write!(self.0, "{byte:02x}").unwrap();
+        }
+        self.0.push('\n');
+    }
+
+    fn check(&mut self, name: &str, table: &[u8]) {
+        let (code, place) = independent::check(table);
+        self.say(name, &[code, place], &[]);
+    }
+
+    fn report(&mut self, name: &str, table: &[u8]) {
+        let report = independent::report(table);
+        let numbers = [
+            report.code,
+            report.place,
+            report.may_be_empty,
+            report.left_recursive,
+            report.how_many,
+            report.lowest,
+        ];
+        self.say(name, &numbers, &[]);
+    }
+
+    fn reading(&mut self, name: &str, table: &[u8], line: &[u8], asked: Asked) {
+        let mut work = vec![7; asked.numbers];
+        let mut room = vec![7; asked.room];
+        let answer = independent::read(
+            table,
+            line,
+            asked.allowance,
+            &mut work,
+            &mut room,
+            asked.whole,
+        );
+        let stored = match answer.code {
+            independent::READ => 5 + 5 * answer.records as usize,
+            _ => 0,
+        };
+        let numbers = [
+            answer.code,
+            answer.place,
+            answer.matched,
+            answer.visits,
+            answer.records,
+        ];
+        self.say(name, &numbers, &room[..stored]);
+    }
+}
+
+/// All cases in the program's order.
+pub fn text() -> String {
+    let mut page = Page(String::new());
+    lines_of_a(&mut page);
+    lines_of_b(&mut page);
+    other_sheets(&mut page);
+    doubling_rules(&mut page);
+    line_length(&mut page);
+    room(&mut page);
+    working_numbers(&mut page);
+    allowance(&mut page);
+    open_visits(&mut page);
+    order_of_a_reading(&mut page);
+    counts(&mut page);
+    cuts(&mut page);
+    roots(&mut page);
+    kinds(&mut page);
+    fields(&mut page);
+    order_of_the_check(&mut page);
+    page.0
+}
+
+fn lines_of_a(page: &mut Page) {
+    let a = sheet_a().table();
+    page.check("A, check", &a);
+    page.report("A, report", &a);
+    page.reading("A on 7+2", &a, b"7+2", prefix(2_500));
+    page.reading("A on 7+2, whole", &a, b"7+2", whole(2_500));
+    page.reading("A on 7+2, allowance 22", &a, b"7+2", prefix(22));
+    page.reading("A on 7+2, allowance 21", &a, b"7+2", prefix(21));
+    page.reading("A on 7", &a, b"7", prefix(2_500));
+    page.reading("A on an empty line", &a, b"", prefix(2_500));
+    page.reading("A on +", &a, b"+", prefix(2_500));
+    page.reading("A on 7+", &a, b"7+", prefix(2_500));
+    page.reading("A on 7+, whole", &a, b"7+", whole(2_500));
+}
+
+fn lines_of_b(page: &mut Page) {
+    let b = sheet_b().table();
+    page.check("B, check", &b);
+    page.report("B, report", &b);
+    page.reading("B on 1,5", &b, b"1,5", prefix(2_500));
+    page.reading("B on 1,5, allowance 49", &b, b"1,5", prefix(49));
+    page.reading("B on 1", &b, b"1", prefix(2_500));
+    page.reading("B on 1,5, whole", &b, b"1,5", whole(2_500));
+    page.reading("B on 1.5, whole", &b, b"1.5", whole(2_500));
+    page.reading("B on ,5, whole", &b, b",5", whole(2_500));
+    let turned = sheet_b_turned_round().table();
+    page.reading("B turned round on 1,5", &turned, b"1,5", whole(2_500));
+}
+
+fn other_sheets(page: &mut Page) {
+    let not_itself = not_itself().table();
+    page.report("S <- !S 'a', report", &not_itself);
+    page.reading("S <- !S 'a' on a", &not_itself, b"a", prefix(2_500));
+    let both_sides = both_sides().table();
+    page.report("E, report", &both_sides);
+    page.reading("E on 1+2+3", &both_sides, b"1+2+3", whole(2_500));
+    let sum = difference().table();
+    page.report("Sum, report", &sum);
+    page.reading("Sum on 9-3-2", &sum, b"9-3-2", whole(2_500));
+}
+
+/// Sum <- Sum '-' Digit / Digit; Digit <- [0-9]
+fn difference() -> Sheet {
+    let mut sheet = Sheet::new();
+    let (sum, digit) = (sheet.rule(0), sheet.rule(1));
+    let minus = sheet.byte(b'-');
+    let longer = sheet.in_order(&[sum, minus, digit]);
+    let root = sheet.choice(longer, digit);
+    let nine = sheet.range(b'0', b'9');
+    sheet.root(root);
+    sheet.root(nine);
+    sheet
+}
+
+/// So many rules, each the next one twice, the last empty.
+fn doubling(rules: u16) -> Sheet {
+    let mut sheet = Sheet::new();
+    let mut roots = vec![sheet.empty()];
+    for next in (1..rules).rev() {
+        let used = sheet.rule(next);
+        roots.push(sheet.sequence(used, used));
+    }
+    roots.into_iter().rev().for_each(|root| sheet.root(root));
+    sheet
+}
+
+fn doubling_rules(page: &mut Page) {
+    for (name, rules) in [("Nine", 9), ("Ten", 10)] {
+        let name = format!("{name} rules that double");
+        page.reading(&name, &doubling(rules).table(), b"", prefix(2_500));
+    }
+}
+
+fn line_length(page: &mut Page) {
+    let mut sheet = Sheet::new();
+    let a = sheet.byte(b'a');
+    let all = sheet.repetition(a);
+    sheet.root(all);
+    for length in [255, 256] {
+        let name = format!("S <- 'a'* on {length} bytes");
+        let line = vec![b'a'; length];
+        page.reading(&name, &sheet.table(), &line, whole(2_500));
+    }
+}
+
+/// A on 7+2 makes 22 visits and stores 25 bytes; the formula then gives
+/// 2,192 working numbers.
+fn exact() -> Asked {
+    Asked {
+        numbers: 2_192,
+        room: 25,
+        ..prefix(22)
+    }
+}
+
+fn room(page: &mut Page) {
+    let a = sheet_a().table();
+    for (name, room) in [("room 25", 25), ("room 24", 24), ("no room", 0)] {
+        let asked = Asked { room, ..exact() };
+        page.reading(&format!("A on 7+2, {name}"), &a, b"7+2", asked);
+    }
+}
+
+fn working_numbers(page: &mut Page) {
+    let a = sheet_a().table();
+    for (name, numbers) in [
+        ("working numbers 2192", 2_192),
+        ("working numbers 2191", 2_191),
+        ("no working numbers", 0),
+    ] {
+        let asked = Asked { numbers, ..exact() };
+        page.reading(&format!("A on 7+2, {name}"), &a, b"7+2", asked);
+    }
+}
+
+fn allowance(page: &mut Page) {
+    let a = sheet_a().table();
+    for allowance in [0, 1, 1_000_000, 1_000_001] {
+        let name = format!("A on 7, allowance {allowance}");
+        page.reading(&name, &a, b"7", prefix(allowance));
+    }
+    page.reading("A on 7, allowance 2^64 - 1", &a, b"7", prefix(u64::MAX));
+    let asked = Asked {
+        numbers: 402_104,
+        ..prefix(100_000)
+    };
+    page.reading("A on 7+2, allowance 100000", &a, b"7+2", asked);
+}
+
+/// 500 nots over 'a'*. On so many bytes of 'a' the most visits are open when
+/// the range fails at the line's end: 502 and the bytes.
+fn open_visits(page: &mut Page) {
+    let mut sheet = Sheet::new();
+    let a = sheet.byte(b'a');
+    let all = sheet.repetition(a);
+    let top = (0..500).fold(all, |child, _| sheet.not(child));
+    sheet.root(top);
+    let table = sheet.table();
+    for open in [511, 512, 513] {
+        let name = format!("{open} open visits");
+        page.reading(&name, &table, &vec![b'a'; open - 502], prefix(550));
+    }
+    page.reading(
+        "513 open visits, allowance 523",
+        &table,
+        &[b'a'; 11],
+        prefix(523),
+    );
+}
+
+fn order_of_a_reading(page: &mut Page) {
+    let a = sheet_a().table();
+    for (name, line, allowance) in [
+        ("256 bytes, allowance 0", [b'7'; 256].as_slice(), 0),
+        ("7, allowance 0", b"7", 0),
+        ("7, allowance 1", b"7", 1),
+    ] {
+        let asked = Asked {
+            numbers: 0,
+            room: 0,
+            ..prefix(allowance)
+        };
+        page.reading(&format!("A on {name}, nothing lent"), &a, line, asked);
+    }
+}
+
+/// Every node empty, every root 0.
+fn empties(n: usize, r: usize) -> Sheet {
+    Sheet {
+        roots: vec![0; r],
+        nodes: vec![(0, 0, 0); n],
+    }
+}
+
+fn counts(page: &mut Page) {
+    for (n, r) in [(1, 1), (512, 64), (513, 64), (512, 65), (0, 1), (1, 0)] {
+        let table = empties(n, r).table();
+        page.check(&format!("Check of nodes, rules {n} {r}"), &table);
+        page.reading(&format!("Nodes, rules {n} {r}"), &table, b"", prefix(2_500));
+    }
+}
+
+fn cuts(page: &mut Page) {
+    let mut a = sheet_a().table();
+    a.push(0);
+    for count in 0..=a.len() {
+        page.check(&format!("A cut to bytes {count}"), &a[..count]);
+    }
+}
+
+fn roots(page: &mut Page) {
+    for (rule, node) in [(0, 6), (0, 7), (0, 256), (1, 0), (1, 7), (1, 65_535)] {
+        let mut a = sheet_a();
+        a.roots[rule] = node;
+        page.check(&format!("A with rule, root {rule} {node}"), &a.table());
+    }
+}
+
+fn kinds(page: &mut Page) {
+    for kind in 0..=255 {
+        let sheet = Sheet {
+            roots: vec![1],
+            nodes: vec![(0, 0, 0), (kind, 0, 0)],
+        };
+        page.reading(
+            &format!("Node 1 of kind {kind}"),
+            &sheet.table(),
+            &[0],
+            prefix(2_500),
+        );
+    }
+}
+
+fn fields(page: &mut Page) {
+    let mut node = |kind, a, b| {
+        let mut sheet = empties(3, 2);
+        sheet.nodes[2] = (kind, a, b);
+        page.check(
+            &format!("Node 2 of kind, a, b {kind} {a} {b}"),
+            &sheet.table(),
+        );
+    };
+    for (a, b) in [(0, 0), (1, 0), (256, 0), (0, 1), (0, 256)] {
+        node(0, a, b);
+    }
+    for (a, b) in [
+        (0, 0),
+        (0, 255),
+        (0, 256),
+        (255, 255),
+        (255, 254),
+        (256, 255),
+        (256, 256),
+        (1, 0),
+        (65_535, 65_535),
+    ] {
+        node(1, a, b);
+    }
+    let one_number = [(1, 0), (2, 0), (256, 0), (1, 1), (1, 256)];
+    for (a, b) in one_number {
+        node(2, a, b);
+    }
+    for kind in [3, 4] {
+        for (a, b) in [(1, 1), (2, 1), (1, 2), (256, 1), (1, 256), (65_535, 65_535)] {
+            node(kind, a, b);
+        }
+    }
+    for kind in [5, 6] {
+        for (a, b) in one_number {
+            node(kind, a, b);
+        }
+    }
+}
+
+fn order_of_the_check(page: &mut Page) {
+    let mut sheet = sheet_a();
+    sheet.nodes[1] = (7, 0, 0);
+    page.check("A with kind 7 at node 1", &sheet.table());
+    sheet.nodes[0] = (2, 2, 0);
+    page.check(
+        "A with kind 7 at node 1, a field wrong at node 0",
+        &sheet.table(),
+    );
+    sheet.roots[1] = 7;
+    page.check("A with these and root 7 of rule 1", &sheet.table());
+    let mut table = sheet.table();
+    table.pop();
+    page.check("A with these and a byte too few", &table);
+    table[4] = 0;
+    page.check("A with these and no nodes", &table);
+    table[0] = 2;
+    page.check("A with these and version 2", &table);
+    page.check("A with these and six bytes", &table[..6]);
+}

@@ -1,0 +1,233 @@
+//! Deep comparison: the proved library answers as the independent reader
+//! does, all numbers and the whole of every buffer.
+//!
+//! All cases of a seed are compared, then those of the next, until there were
+//! enough. KOSKORBELU_SEED sets the first seed, KOSKORBELU_COMMANDS how many
+//! commands are enough.
+
+#[cfg(not(feature = "proved"))]
+#[test]
+#[ignore = "needs the proved library: scripts/native-archive, then --features proved"]
+fn the_cases_of_the_case_maker() {}
+
+#[cfg(feature = "proved")]
+mod proved {
+    use std::env;
+    use std::str::FromStr;
+
+    use cases::{decode, make, sheet_a, sheet_b, sum_sheet, Command, Lending, Readers};
+    use koskorbelu::{face, stored_length, Answer, Tree};
+
+    const SEED: u64 = 1;
+    const COMMANDS: usize = 24_000;
+
+    #[test]
+    fn the_cases_of_the_case_maker() {
+        let first = setting("KOSKORBELU_SEED", SEED);
+        let enough = setting("KOSKORBELU_COMMANDS", COMMANDS);
+        let mut compared = 0;
+        let mut seed = first;
+        while compared < enough {
+            compared += compare_all(seed, enough - compared);
+            seed += 1;
+        }
+        println!(
+            "{compared} commands compared, seeds {first} to {}",
+            seed - 1
+        );
+    }
+
+    fn setting<T: FromStr>(variable: &str, usual: T) -> T {
+        match env::var(variable) {
+            Ok(text) => match text.parse() {
+                Ok(number) => number,
+                Err(_) => panic!("{variable} is no number: {text}"),
+            },
+            Err(_) => usual,
+        }
+    }
+
+    /// Compares at most so many commands of a seed, and gives how many.
+    fn compare_all(seed: u64, most: usize) -> usize {
+        let (mut table, mut line) = (Vec::new(), Vec::new());
+        let mut compared = 0;
+        for command in decode(&make(seed).stdin) {
+            if compared == most {
+                break;
+            }
+            match &command {
+                Command::Table(next) => table.clone_from(next),
+                Command::Line(next) => line.clone_from(next),
+                // The C functions have no such test.
+                Command::WellFormed { .. } => {}
+                asked => {
+                    compared += 1;
+                    if let Some(found) = difference(asked, &table, &line) {
+                        panic!("seed {seed}, table {table:?}, line {line:?}, {asked:?}: {found}");
+                    }
+                }
+            }
+        }
+        compared
+    }
+
+    /// What the proved library gives that the independent reader does not.
+    fn difference(asked: &Command, table: &[u8], line: &[u8]) -> Option<String> {
+        let independent = Readers::independent();
+        let numbers = |proved: &[u64], other: &[u64]| {
+            (proved != other).then(|| format!("proved {proved:?}, independent {other:?}"))
+        };
+        match asked {
+            Command::Check => {
+                let (code, place) = (independent.check)(table);
+                numbers(&face::check(table), &[code, place])
+            }
+            Command::Report => numbers(&face::report(table), &(independent.report)(table)),
+            Command::Read(lending) => {
+                let proved = read(face::read, table, line, lending);
+                let other = read(independent.read, table, line, lending);
+                numbers(&proved.0, &other.0)
+                    .or((proved.1 != other.1).then(|| "working numbers differ".to_string()))
+                    .or((proved.2 != other.2).then(|| "rooms differ".to_string()))
+            }
+            _ => None,
+        }
+    }
+
+    /// A reading: table, line, allowance, working numbers, room, whole.
+    type Read = fn(&[u8], &[u8], u64, &mut [u32], &mut [u8], bool) -> [u64; 5];
+
+    /// The five numbers, and what is then in the working numbers and the room.
+    type Left = ([u64; 5], Vec<u32>, Vec<u8>);
+
+    fn read(function: Read, table: &[u8], line: &[u8], lending: &Lending) -> Left {
+        let (mut work, mut room) = (lending.work(), lending.room());
+        let numbers = function(
+            table,
+            line,
+            lending.allowance,
+            &mut work,
+            &mut room,
+            lending.whole,
+        );
+        (numbers, work, room)
+    }
+
+    /// Allowances whose working numbers the commands cannot lend.
+    #[test]
+    fn large_allowances() {
+        let lines = [
+            "((1+2)*(3-4)+5)*6-(7)".to_string(),
+            "(((((1)))))".to_string(),
+            "1+2*3-4+".repeat(31),
+            "9".to_string() + &"+9".repeat(127),
+            "9".to_string() + &"+9".repeat(128),
+        ];
+        for (sheet, allowance) in [
+            (sum_sheet(), 1_000_000),
+            (sum_sheet(), 300_000),
+            (sheet_a(), 1_000_000),
+            (sheet_a(), 1_000_001),
+        ] {
+            let table = sheet.table();
+            for line in &lines {
+                for whole in [false, true] {
+                    let asked = Command::Read(Lending {
+                        whole,
+                        allowance,
+                        work: 4_100_000,
+                        room: 5_005,
+                        fill: 7,
+                    });
+                    let found = difference(&asked, &table, line.as_bytes());
+                    assert_eq!(found, None, "{line}, {asked:?}");
+                }
+            }
+        }
+    }
+
+    /// What Rust is given says the same as the numbers.
+    #[test]
+    fn answers_for_rust() {
+        for (sheet, line) in [
+            (sheet_a(), "7+2"),
+            (sheet_a(), "7+"),
+            (sheet_b(), "1,5"),
+            (sheet_b(), ",5"),
+            (sum_sheet(), "9-3-2*(4+1)"),
+        ] {
+            let (table, line) = (sheet.table(), line.as_bytes());
+            let (mut work, mut room) = (vec![7; 16_384], vec![7; 5_005]);
+            let [code, place, matched, visits, records] =
+                face::read(&table, line, 2_500, &mut work, &mut room, true);
+            let answer = koskorbelu::read_whole(&table, line, 2_500);
+            assert_eq!((answer.code().number(), answer.visits()), (code, visits));
+            match answer {
+                Answer::Read {
+                    matched: end,
+                    reading,
+                    ..
+                } => {
+                    assert_eq!(end as u64, matched);
+                    assert_eq!(reading.stored(), &room[..stored_length(records as usize)]);
+                    assert_eq!(again(&reading.tree()), reading.stored()[5..]);
+                }
+                Answer::Refused { place: at, .. } => assert_eq!(at as u64, place),
+            }
+            let mut other_room = vec![7; 5_005];
+            let lent = koskorbelu::read_whole_with(&table, line, 2_500, &mut work, &mut other_room);
+            let alone = koskorbelu::read_whole(&table, line, 2_500);
+            assert_eq!(lent.to_string(), alone.to_string());
+            assert_eq!(other_room, room);
+        }
+    }
+
+    /// The records of a tree as they are stored.
+    fn again(tree: &Tree) -> Vec<u8> {
+        let mut bytes: Vec<u8> = tree.children.iter().flat_map(again).collect();
+        bytes.extend([tree.rule as u8, tree.start as u8, tree.end as u8]);
+        bytes.extend((tree.children.len() as u16).to_be_bytes());
+        bytes
+    }
+
+    /// With nothing lent, and with nothing in what is lent.
+    #[test]
+    fn empty_slices() {
+        assert_eq!(face::check(&[]), [1, 0]);
+        assert_eq!(face::report(&[]), [1, 0, 0, 0, 0, 64]);
+        let table = sheet_b().table();
+        for whole in [false, true] {
+            let numbers = face::read(&[], &[], 0, &mut [], &mut [], whole);
+            assert_eq!(numbers, [1, 0, 0, 0, 0]);
+            let numbers = face::read(&table, &[], 1, &mut [], &mut [], whole);
+            assert_eq!(numbers, [10, 0, 0, 0, 0]);
+        }
+    }
+
+    /// The wrapper lends enough for every line, the longest and deepest too.
+    #[test]
+    fn enough_is_lent() {
+        let table = sheet_a().table();
+        for length in [1, 127, 255] {
+            let line: Vec<u8> = b"7+".iter().copied().cycle().take(length).collect();
+            for allowance in [1, 2_500, 1_000_000, u64::MAX] {
+                let answer = koskorbelu::read_prefix(&table, &line, allowance);
+                assert!(
+                    answer.code() != koskorbelu::Code::Work,
+                    "{length} {allowance}"
+                );
+                assert!(
+                    answer.code() != koskorbelu::Code::Room,
+                    "{length} {allowance}"
+                );
+            }
+        }
+        let refused = koskorbelu::check(&table[..45]).unwrap_err();
+        assert_eq!(refused.to_string(), "LENGTH 0");
+        let report = koskorbelu::report(&table).unwrap();
+        assert_eq!((report.lowest, report.how_many), (Some(0), 1));
+        assert!(!report.is_free());
+        let free = koskorbelu::report(&sheet_b().table()).unwrap();
+        assert!(free.is_free() && free.lowest.is_none());
+    }
+}
