@@ -1,5 +1,9 @@
-//! Times each reader on a thousand lines of three sheets, everything
-//! included: check, report, reading, storing, clearing.
+//! Times each reader on a thousand lines of three sheets and on long lines.
+//!
+//! A reading is timed as a whole: check, report, reading, storing, clearing.
+//! Clearing is part of it, since the rules say what is left in the working
+//! numbers. How long it takes to clear as many numbers is timed by itself, so
+//! that the rest can be told apart.
 //!
 //! Per line the least of several repetitions counts, per sheet the median
 //! over its lines, and the ratio to the plain baseline.
@@ -11,12 +15,12 @@ use std::hint::black_box;
 use std::time::Instant;
 
 use cases::{sheet_a, sheet_b, sum_sheet, Random};
+use koskorbelu::{work_needed, MOST_ALLOWANCE, MOST_STORED};
 use readers::{readers, Reader};
 
 /// What the program lends for each line.
 const ALLOWANCE: u64 = 2_500;
 const WORK: usize = 16_384;
-const ROOM: usize = 5_005;
 
 const LINES: usize = 1_000;
 const REPETITIONS: usize = 15;
@@ -24,13 +28,19 @@ const REPETITIONS: usize = 15;
 /// Calls timed together, so that reading the clock weighs little.
 const CALLS: u32 = 4;
 
-/// The reader all others are compared with.
-const BASELINE: &str = "plain";
-
 struct Sheet {
     name: &'static str,
     table: Vec<u8>,
     lines: Vec<Vec<u8>>,
+    allowance: u64,
+}
+
+impl Sheet {
+    /// How many working numbers a reading of the line clears.
+    fn cleared(&self, line: &[u8]) -> usize {
+        let nodes = usize::from(self.table[3]) * 256 + usize::from(self.table[4]);
+        work_needed(self.allowance, nodes, line.len()) as usize
+    }
 }
 
 /// What is lent, kept from line to line as the program keeps it.
@@ -39,41 +49,104 @@ struct Lent {
     room: Vec<u8>,
 }
 
-fn main() {
-    let readers = readers();
-    let mut lent = Lent {
-        work: vec![0; WORK],
-        room: vec![0; ROOM],
-    };
-    for sheet in sheets() {
-        let codes = agree(&readers, &sheet, &mut lent);
-        println!("sheet {}: {} lines, {codes}", sheet.name, sheet.lines.len());
-        let times = time(&readers, &sheet, &mut lent);
-        print_times(&readers, times);
+impl Lent {
+    fn new(work: usize) -> Lent {
+        Lent {
+            work: vec![0; work],
+            room: vec![0; MOST_STORED],
+        }
     }
 }
 
-fn sheets() -> [Sheet; 3] {
+/// The nanoseconds of one line.
+struct Times {
+    /// Of each reader.
+    readings: Vec<f64>,
+    clearing: f64,
+}
+
+fn main() {
+    let readers = readers();
+    println!("Each reading is timed as a whole, and clearing the working numbers is part of it.");
+    println!("`rest` is the whole less the time to clear as many numbers.");
+    for sheet in class_sheets() {
+        let mut lent = Lent::new(WORK);
+        let codes = agree(&readers, &sheet, &mut lent);
+        let times = time(&readers, &sheet, &mut lent);
+        let clearing = median(times.iter().map(|line| line.clearing).collect());
+        println!();
+        println!("sheet {}: {LINES} lines, {codes}", sheet.name);
+        println!("  ns a line        whole  ratio      rest  ratio   (clearing {clearing:.0})");
+        print_columns(&readers, &times, 1.0, 0);
+    }
+    for (sheet, visits) in long_lines() {
+        let line = &sheet.lines[0];
+        let mut lent = Lent::new(sheet.cleared(line));
+        let codes = agree(&readers, &sheet, &mut lent);
+        let times = time(&readers, &sheet, &mut lent);
+        println!();
+        println!(
+            "long line, {}: {} bytes, {visits} visits, {codes}",
+            sheet.name,
+            line.len()
+        );
+        println!(
+            "  ns a visit       whole  ratio      rest  ratio   (clearing {:.2})",
+            times[0].clearing / visits as f64
+        );
+        print_columns(&readers, &times, visits as f64, 2);
+    }
+}
+
+/// A thousand lines each, with what the program lends.
+fn class_sheets() -> [Sheet; 3] {
     let mut random = Random::new(2_500);
-    let mut make =
-        |line: fn(&mut Random) -> Vec<u8>| (0..LINES).map(|_| line(&mut random)).collect();
+    let mut make = |name, sheet: cases::Sheet, line: fn(&mut Random) -> Vec<u8>| Sheet {
+        name,
+        table: sheet.table(),
+        lines: (0..LINES).map(|_| line(&mut random)).collect(),
+        allowance: ALLOWANCE,
+    };
     [
-        Sheet {
-            name: "A",
-            table: sheet_a().table(),
-            lines: make(lines::for_a),
-        },
-        Sheet {
-            name: "B",
-            table: sheet_b().table(),
-            lines: make(lines::for_b),
-        },
-        Sheet {
-            name: "sum",
-            table: sum_sheet().table(),
-            lines: make(lines::for_sums),
-        },
+        make("A", sheet_a(), lines::for_a),
+        make("B", sheet_b(), lines::for_b),
+        make("sum", sum_sheet(), lines::for_sums),
     ]
+}
+
+/// One line each, with its visits; it is lent just what it needs.
+fn long_lines() -> Vec<(Sheet, u64)> {
+    let ones = |count: usize, between: &str| vec!["1"; count].join(between).into_bytes();
+    let long = [
+        ("sheet A", sheet_a(), ones(128, "+")),
+        ("sum", sum_sheet(), ones(128, "+")),
+        (
+            "decimal comma, free",
+            sheets::decimal_comma(),
+            ones(255, ""),
+        ),
+    ];
+    let with_visits = long.into_iter().map(|(name, sheet, line)| {
+        let mut sheet = Sheet {
+            name,
+            table: sheet.table(),
+            lines: vec![line],
+            allowance: MOST_ALLOWANCE,
+        };
+        let line = &sheet.lines[0];
+        let mut lent = Lent::new(sheet.cleared(line));
+        let answer = plain::read(
+            &sheet.table,
+            line,
+            MOST_ALLOWANCE,
+            &mut lent.work,
+            &mut lent.room,
+            true,
+        );
+        sheet.allowance = answer.visits;
+        (sheet, answer.visits)
+    });
+    with_visits.collect()
 }
 
 /// A comparison of readers that differ means nothing: all must give the same
@@ -93,7 +166,7 @@ fn agree(readers: &[Reader], sheet: &Sheet, lent: &mut Lent) -> String {
                 let answer = (reader.read)(
                     &sheet.table,
                     line,
-                    ALLOWANCE,
+                    sheet.allowance,
                     &mut lent.work,
                     &mut lent.room,
                     whole,
@@ -118,46 +191,78 @@ fn agree(readers: &[Reader], sheet: &Sheet, lent: &mut Lent) -> String {
     named.collect::<Vec<String>>().join(", ")
 }
 
-/// For each reader, the nanoseconds of each line.
-fn time(readers: &[Reader], sheet: &Sheet, lent: &mut Lent) -> Vec<Vec<f64>> {
-    let mut times = vec![vec![f64::INFINITY; sheet.lines.len()]; readers.len()];
+/// The times of each line.
+fn time(readers: &[Reader], sheet: &Sheet, lent: &mut Lent) -> Vec<Times> {
+    let unknown = || Times {
+        readings: vec![f64::INFINITY; readers.len()],
+        clearing: f64::INFINITY,
+    };
+    let mut times: Vec<Times> = sheet.lines.iter().map(|_| unknown()).collect();
     // Readers and lines take turns, so that a slow moment of the machine
     // falls on all of them alike.
     for _ in 0..REPETITIONS {
-        for (reader, times) in readers.iter().zip(&mut times) {
-            for (line, least) in sheet.lines.iter().zip(times) {
-                *least = least.min(time_once(reader, &sheet.table, line, lent));
+        for (index, reader) in readers.iter().enumerate() {
+            for (line, times) in sheet.lines.iter().zip(&mut times) {
+                let once = time_reading(reader, sheet, line, lent);
+                times.readings[index] = times.readings[index].min(once);
             }
+        }
+        for (line, times) in sheet.lines.iter().zip(&mut times) {
+            let once = time_clearing(sheet.cleared(line), lent);
+            times.clearing = times.clearing.min(once);
         }
     }
     times
 }
 
-fn time_once(reader: &Reader, table: &[u8], line: &[u8], lent: &mut Lent) -> f64 {
-    let start = Instant::now();
-    for _ in 0..CALLS {
+fn time_reading(reader: &Reader, sheet: &Sheet, line: &[u8], lent: &mut Lent) -> f64 {
+    time_calls(|| {
         let answer = (reader.read)(
-            black_box(table),
+            black_box(&sheet.table),
             black_box(line),
-            ALLOWANCE,
+            sheet.allowance,
             black_box(&mut lent.work),
             black_box(&mut lent.room),
             true,
         );
         black_box(answer);
+    })
+}
+
+fn time_clearing(numbers: usize, lent: &mut Lent) -> f64 {
+    time_calls(|| black_box(&mut lent.work[..numbers]).fill(0))
+}
+
+/// Nanoseconds a call.
+fn time_calls(mut call: impl FnMut()) -> f64 {
+    let start = Instant::now();
+    for _ in 0..CALLS {
+        call();
     }
     start.elapsed().as_nanos() as f64 / f64::from(CALLS)
 }
 
-fn print_times(readers: &[Reader], times: Vec<Vec<f64>>) {
-    let medians: Vec<f64> = times.into_iter().map(median).collect();
-    let baseline = readers
-        .iter()
-        .position(|reader| reader.name == BASELINE)
-        .expect("the baseline is among the readers");
-    for (reader, time) in readers.iter().zip(&medians) {
-        let ratio = time / medians[baseline];
-        println!("  {:12} {:9.0} ns a line  {ratio:6.2}", reader.name, time);
+/// For each reader the median over the lines, whole and without clearing, of
+/// one of so many parts, with so many decimals, and the ratios to the baseline.
+fn print_columns(readers: &[Reader], times: &[Times], parts: f64, decimals: usize) {
+    let medians = |reader: usize| {
+        let whole = times.iter().map(|line| line.readings[reader]);
+        let rest = times
+            .iter()
+            .map(|line| line.readings[reader] - line.clearing);
+        [median(whole.collect()), median(rest.collect())]
+    };
+    let baseline = medians(0);
+    for (index, reader) in readers.iter().enumerate() {
+        let [whole, rest] = medians(index);
+        println!(
+            "  {:12} {:9.decimals$} {:6.2} {:9.decimals$} {:6.2}",
+            reader.name,
+            whole / parts,
+            whole / baseline[0],
+            rest / parts,
+            rest / baseline[1],
+        );
     }
 }
 

@@ -46,102 +46,17 @@ macro_rules! rust_reader {
     };
 }
 
+/// The baseline, which all others are compared with, comes first.
 pub fn readers() -> Vec<Reader> {
     vec![
         rust_reader!(plain),
-        rust_reader!(independent),
         #[cfg(feature = "proved")]
-        proved::READER,
+        Reader {
+            name: "proved",
+            check: koskorbelu::face::check,
+            report: koskorbelu::face::report,
+            read: koskorbelu::face::read,
+        },
+        rust_reader!(independent),
     ]
-}
-
-/// The proved library, by its C functions. Each writes its answer through
-/// the last pointer and keeps to the slices it was lent.
-#[cfg(feature = "proved")]
-mod proved {
-    use super::Reader;
-
-    extern "C" {
-        fn kos_check(table: *const u8, table_length: usize, answer: *mut u64);
-        fn kos_report(table: *const u8, table_length: usize, answer: *mut u64);
-        fn kos_read_prefix(
-            table: *const u8,
-            table_length: usize,
-            line: *const u8,
-            line_length: usize,
-            allowance: u64,
-            work: *mut u32,
-            work_length: usize,
-            room: *mut u8,
-            room_length: usize,
-            answer: *mut u64,
-        );
-        fn kos_read_whole(
-            table: *const u8,
-            table_length: usize,
-            line: *const u8,
-            line_length: usize,
-            allowance: u64,
-            work: *mut u32,
-            work_length: usize,
-            room: *mut u8,
-            room_length: usize,
-            answer: *mut u64,
-        );
-    }
-
-    pub const READER: Reader = Reader {
-        name: "proved",
-        check,
-        report,
-        read,
-    };
-
-    fn check(table: &[u8]) -> [u64; 2] {
-        let mut answer = [0; 2];
-        // SAFETY: pointer and length are those of one slice; the answer is
-        // as long as the function says.
-        unsafe { kos_check(table.as_ptr(), table.len(), answer.as_mut_ptr()) };
-        answer
-    }
-
-    fn report(table: &[u8]) -> [u64; 6] {
-        let mut answer = [0; 6];
-        // SAFETY: as above.
-        unsafe { kos_report(table.as_ptr(), table.len(), answer.as_mut_ptr()) };
-        answer
-    }
-
-    fn read(
-        table: &[u8],
-        line: &[u8],
-        allowance: u64,
-        work: &mut [u32],
-        room: &mut [u8],
-        whole: bool,
-    ) -> [u64; 5] {
-        let mut answer = [0; 5];
-        let function = if whole {
-            kos_read_whole
-        } else {
-            kos_read_prefix
-        };
-        // SAFETY: each pointer and length are those of one slice, the slices
-        // are disjoint, and the answer is as long as the function says.
-        unsafe {
-            function(
-                table.as_ptr(),
-                table.len(),
-                line.as_ptr(),
-                line.len(),
-                allowance,
-                work.as_mut_ptr(),
-                work.len(),
-                room.as_mut_ptr(),
-                room.len(),
-                answer.as_mut_ptr(),
-            );
-        }
-        answer
-    }
 }

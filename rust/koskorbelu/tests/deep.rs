@@ -14,8 +14,9 @@ fn the_cases_of_the_case_maker() {}
 mod proved {
     use std::env;
     use std::str::FromStr;
+    use std::thread;
 
-    use cases::{decode, make, sheet_a, sheet_b, sum_sheet, Command, Lending, Readers};
+    use cases::{decode, make, run, sheet_a, sheet_b, sum_sheet, Command, Lending, Readers};
     use koskorbelu::{face, stored_length, Answer, Tree};
 
     const SEED: u64 = 1;
@@ -202,6 +203,21 @@ mod proved {
             let numbers = face::read(&table, &[], 1, &mut [], &mut [], whole);
             assert_eq!(numbers, [10, 0, 0, 0, 0]);
         }
+    }
+
+    /// The deepest readings too fit in half a megabyte.
+    #[test]
+    fn a_small_stack_is_enough() {
+        let stream = make(SEED).stdin;
+        let readers = Readers {
+            check: |table| face::check(table).into(),
+            report: face::report,
+            read: face::read,
+            well_formed: Readers::independent().well_formed,
+        };
+        let small = thread::Builder::new().stack_size(512 * 1024);
+        let answering = small.spawn(move || run(&stream, readers)).unwrap();
+        assert!(!answering.join().unwrap().is_empty());
     }
 
     /// The wrapper lends enough for every line, the longest and deepest too.

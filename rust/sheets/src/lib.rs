@@ -3,8 +3,9 @@
 use cases::Sheet;
 
 /// Each folder of `examples/` with its sheet.
-pub fn all() -> [(&'static str, Sheet); 3] {
+pub fn all() -> [(&'static str, Sheet); 4] {
     [
+        ("one-digit", cases::sheet_b()),
         ("decimal-comma", decimal_comma()),
         ("thousands", thousands()),
         ("sum", sum()),

@@ -1,0 +1,150 @@
+/*
+ * koskorbelu.h: the proved reader for left-recursive grammars, for C99 and C++.
+ *
+ * Link with the archive that scripts/native-archive makes; it needs memcpy and
+ * memset of the C library and nothing else.
+ *
+ * A slice is two arguments, a pointer and then its length in elements. An
+ * answer is a pointer to a fixed number of uint64_t. No function asks anything
+ * of the contents: every table, line, allowance and length has a named answer,
+ * damaged ones included. Asked of the pointers, as always in C:
+ *
+ *   - none is null, also where the length is 0;
+ *   - each is aligned for its element, and its elements belong to the caller;
+ *   - a buffer that is written (work, room, answer) overlaps no other.
+ *
+ * Half a megabyte of stack is enough on x86-64: that is measured, not proved.
+ * Nothing is allocated, kept between calls or shared: calls with buffers of
+ * their own may run at the same time. The same arguments give the same answer.
+ * What each function writes is proved in crates/koskorbelu.
+ */
+#ifndef KOSKORBELU_H
+#define KOSKORBELU_H
+
+#include <stddef.h>
+#include <stdint.h>
+
+#ifdef __cplusplus
+extern "C" {
+#endif
+
+/* The first number of every answer. In brackets what the place then is; it is
+ * 0 where none is named. The checks are made in this order, READ last. */
+enum kos_code {
+    KOS_READ = 0,     /* no refusal */
+    KOS_SHORT = 1,    /* table under 7 bytes */
+    KOS_VERSION = 2,  /* its first byte is not 1 */
+    KOS_COUNT = 3,    /* node count not 1 to 512, or rule count not 1 to 64 */
+    KOS_LENGTH = 4,   /* slice length, written length and formula differ */
+    KOS_ROOT = 5,     /* a root is no node (the first such rule) */
+    KOS_KIND = 6,     /* a node's kind is above 6 (the node) */
+    KOS_FIELD = 7,    /* a node's field is not as its kind asks (the node) */
+    KOS_LINE = 8,     /* line over 255 bytes */
+    KOS_ALLOW = 9,    /* allowance 0 or over 1,000,000 */
+    KOS_WORK = 10,    /* fewer working numbers than the formula asks */
+    KOS_EFFORT = 11,  /* the allowance is used up (position of the refused visit) */
+    KOS_DEEP = 12,    /* 512 visits are open (position of the refused visit) */
+    KOS_FAIL = 13,    /* rule 0 fails */
+    KOS_REST = 14,    /* whole-line only: the match ends before the line (matched) */
+    KOS_RECORDS = 15, /* the tree has over 1,000 records (matched) */
+    KOS_ROOM = 16     /* room under the stored length (matched) */
+};
+
+/* Numbers in an answer of kos_check, kos_report and the two readings. */
+#define KOS_CHECK_NUMBERS 2
+#define KOS_REPORT_NUMBERS 6
+#define KOS_READ_NUMBERS 5
+
+/* Where they stand. Every answer begins with code and place. */
+enum kos_at {
+    KOS_AT_CODE = 0,
+    KOS_AT_PLACE = 1,
+    /* the report */
+    KOS_AT_MAY_BE_EMPTY = 2,
+    KOS_AT_LEFT_RECURSIVE = 3,
+    KOS_AT_HOW_MANY = 4,
+    KOS_AT_LOWEST = 5,
+    /* a reading */
+    KOS_AT_MATCHED = 2,
+    KOS_AT_VISITS = 3,
+    KOS_AT_RECORDS = 4
+};
+
+/* Limits. */
+#define KOS_MOST_NODES 512
+#define KOS_MOST_RULES 64
+#define KOS_MOST_TABLE 2695
+#define KOS_MOST_LINE 255
+#define KOS_MOST_ALLOWANCE 1000000
+#define KOS_MOST_RECORDS 1000
+
+/* Working numbers that a reading asks for, with a table of so many nodes. */
+#define KOS_WORK_NEEDED(allowance, nodes, line_length) \
+    (2048 + 4 * (size_t)(allowance) + 2 * (size_t)(nodes) * ((size_t)(line_length) + 1))
+
+/* Bytes of a stored reading with so many records, and of the longest. */
+#define KOS_STORED_LENGTH(records) (5 + 5 * (size_t)(records))
+#define KOS_MOST_STORED 5005
+
+/*
+ * Whether the table is a sheet.
+ *
+ * answer: code (READ or SHORT to FIELD), place. Nothing else is written.
+ */
+void kos_check(const uint8_t *table, size_t table_length, uint64_t answer[KOS_CHECK_NUMBERS]);
+
+/*
+ * The report on a table.
+ *
+ * answer: code (READ or SHORT to FIELD), place, the mask of rules whose root
+ * may be empty (bit i for rule i), the mask of left-recursive rules, how many
+ * bits are set in it, the lowest of them (64 if none). On a refusal both masks
+ * and the number are 0 and the lowest is 64. Nothing else is written.
+ */
+void kos_report(const uint8_t *table, size_t table_length, uint64_t answer[KOS_REPORT_NUMBERS]);
+
+/*
+ * How far the sheet matches from the line's beginning.
+ *
+ * answer: code, place, matched, visits, records.
+ *
+ *   SHORT to WORK   zeros after the place.
+ *   EFFORT to FAIL  matched 0, the visits made, records 0.
+ *   RECORDS         matched, visits, 1,001.
+ *   ROOM            matched, visits, the true number of records.
+ *   READ            the same, and the tree is stored in the room.
+ *
+ * work: SHORT to WORK leave it as found. Else the first numbers, as many as
+ * KOS_WORK_NEEDED says, are 0 and the rest is as found. What stood there
+ * before has no influence.
+ *
+ * room: READ leaves the stored reading in its first KOS_STORED_LENGTH(records)
+ * bytes and the rest as found; any other answer leaves all of it as found.
+ *
+ * Stored reading: version 1; its length (2 bytes, the high one first); number
+ * of records (2); for each record five bytes: rule, start, end, number of
+ * children (2). Children come before their parent, in order; the root is last.
+ */
+void kos_read_prefix(const uint8_t *table, size_t table_length,
+                     const uint8_t *line, size_t line_length,
+                     uint64_t allowance,
+                     uint32_t *work, size_t work_length,
+                     uint8_t *room, size_t room_length,
+                     uint64_t answer[KOS_READ_NUMBERS]);
+
+/*
+ * The same, where the whole line has to match: a match that ends before the
+ * line does gives REST, with place and matched its end, visits, records 0.
+ */
+void kos_read_whole(const uint8_t *table, size_t table_length,
+                    const uint8_t *line, size_t line_length,
+                    uint64_t allowance,
+                    uint32_t *work, size_t work_length,
+                    uint8_t *room, size_t room_length,
+                    uint64_t answer[KOS_READ_NUMBERS]);
+
+#ifdef __cplusplus
+}
+#endif
+
+#endif
