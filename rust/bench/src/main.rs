@@ -1,4 +1,5 @@
-//! Times each reader on a thousand lines of three sheets and on long lines.
+//! Times each reader on a thousand lines of three sheets and on long lines,
+//! and its report on small and full tables.
 //!
 //! A reading is timed as a whole: check, report, reading, storing, clearing.
 //! Clearing is part of it, since the rules say what is left in the working
@@ -95,6 +96,62 @@ fn main() {
             times[0].clearing / visits as f64
         );
         print_columns(&readers, &times, visits as f64, 2);
+    }
+    for (name, table) in report_tables() {
+        println!();
+        println!("report, {name}: {} bytes", table.len());
+        print_reports(&readers, &table);
+    }
+}
+
+/// Sheets A and B, and two tables of 512 nodes and 64 rules.
+fn report_tables() -> [(&'static str, Vec<u8>); 4] {
+    [
+        ("sheet A", sheet_a().table()),
+        ("sheet B", sheet_b().table()),
+        ("full, none may be empty", full(false).table()),
+        ("full, all may be empty", full(true).table()),
+    ]
+}
+
+/// 64 rules of 8 nodes: each is a byte, or has the next rule at its left end,
+/// the last one the first. If the last may be empty, so may all, and this is
+/// learnt one rule at a time.
+fn full(last_may_be_empty: bool) -> cases::Sheet {
+    let mut sheet = cases::Sheet::new();
+    for rule in 0..64 {
+        let to = sheet.rule((rule + 1) % 64);
+        let again = sheet.rule((rule + 1) % 64);
+        let twice = sheet.sequence(to, again);
+        let byte = sheet.byte(b'a');
+        let some = if last_may_be_empty && rule == 63 {
+            sheet.repetition(byte)
+        } else {
+            sheet.byte(b'b')
+        };
+        let either = sheet.choice(twice, byte);
+        let first = sheet.choice(some, either);
+        let root = sheet.choice(first, to);
+        sheet.root(root);
+    }
+    sheet
+}
+
+/// The least time of a report by each reader, and the ratio to the baseline.
+fn print_reports(readers: &[Reader], table: &[u8]) {
+    let mut least = vec![f64::INFINITY; readers.len()];
+    for _ in 0..REPETITIONS * 20 {
+        for (reader, least) in readers.iter().zip(&mut least) {
+            assert_eq!((reader.report)(table), (readers[0].report)(table));
+            let once = time_calls(|| {
+                black_box((reader.report)(black_box(table)));
+            });
+            *least = least.min(once);
+        }
+    }
+    println!("  ns a report      whole  ratio");
+    for (reader, time) in readers.iter().zip(&least) {
+        println!("  {:12} {:9.0} {:6.2}", reader.name, time, time / least[0]);
     }
 }
 

@@ -93,9 +93,12 @@ returns c =
     let r = (at-entry .pre .0) .room in
     let i = (at-entry .pre .1) in
     let l = at-finish .ensures (at-entry .args .allowance) (read (grammarOf (at-entry .args .table .now)) (at-entry .args .line .now) (at-entry .args .allowance)) (cleared (at-entry .args .needed) (at-entry .args .work .now)) (at-start .ensures .1) in
+    let long = at-clear2 .kept .0 ∙ (at-start .kept .1 .1 .0 ∙ at-no-cells .kept .0 ∙ at-clear .kept .0 ∙ at-is-free .kept .1 .0) in
+    let used = at-is-free .ensures .used in
+    let until-ready = past-ready _ _ _ _ _ (at-is-free .result) _ _ _ _ (at-entry .pre .0) (at-entry .pre .1) (used .same-length) (used .rest) (at-kept-from .ensures) (at-clear .ensures) (at-no-cells .ensures .0) in
     record {
       returned = l .returned;
-      working = as-cleared _ _ _ _ (omega arith) (at-clear2 .kept .0 ∙ (at-start .kept .1 .1 .0 ∙ at-no-cells .kept .0 ∙ at-clear .kept .0 ∙ at-is-free .kept .1 .0)) (at-clear2 .ensures) (λ j h. at-start .ensures .0 .past j (omega arith) ∙ past-ready _ _ _ _ _ (at-is-free .result) _ _ _ _ (at-entry .pre .0) (at-entry .pre .1) (at-is-free .ensures .used .same-length) (at-is-free .ensures .used .rest) (at-kept-from .ensures) (at-clear .ensures) (at-no-cells .ensures .0) j h) ∙ l .working;
+      working = as-cleared _ _ _ _ (omega arith) long (at-clear2 .ensures) (λ j h. at-start .ensures .0 .past j (omega arith) ∙ until-ready j h) ∙ l .working;
       stored = l .stored;
     }
 

@@ -237,21 +237,26 @@ apply-b-in-requires t c κs = search needs
 apply-range-end-requires : (t : ℕ) → apply-lts.Need-range-end-requires (apply-claims t) (apply-at t) apply.Post
 apply-range-end-requires t c κs =
     let at-start = c .before .before .before .before .before .before .before in
-    ((at-start .pre .1 .0) .pos-in, (at-start .pre .1 .0 .fit) .short)
+    let ready = at-start .pre .1 .0 in
+    let fit = at-start .pre .1 .0 .fit in
+    (ready .pos-in, fit .short)
 
 apply-a-in-requires-2 : (t : ℕ) → apply-lts.Need-a-in-requires-2 (apply-claims t) (apply-at t) apply.Post
 apply-a-in-requires-2 t c κs = search needs
 
 apply-use-rule-requires : (t : ℕ) → apply-lts.Need-use-rule-requires (apply-claims t) (apply-at t) apply.Post
 apply-use-rule-requires t c κs =
-    let at-a-in2 = c .a-in2 in
     let at-start = c .before .before .before .before .before .before .before in
+    let at-a-in2 = c .a-in2 in
     let at-kind-in = c .before .before .before .kind-in in
     let at-match = c .before .before .match in
+    let given = at-start .args .given .now in
+    let fit = at-start .pre .1 .0 .fit in
+    let ready = at-start .pre .1 .0 in
     let e = at-a-in2 .ensures .0 in
-    let r : aIn (at-start .args .given .now) (at-start .args .node) < rulesIn (at-start .args .given .now) = rule-used _ _ (at-start .pre .1 .0 .fit) (at-start .args .node) ((at-start .pre .1 .0) .node-in) (sym (at-kind-in .ensures) ∙ at-match .keys3) in
-    let la : at-a-in2 .result < rulesIn (at-start .args .given .now) = omega arith in
-    ((omega (arith, at-start .pre .0)), (ready-at _ (at-start .pre .1 .0) (root-in _ _ (at-start .pre .1 .0 .fit) _ la), (at-start .pre .1 .1, la)))
+    let r : aIn given (at-start .args .node) < rulesIn given = rule-used _ _ fit (at-start .args .node) (ready .node-in) (sym (at-kind-in .ensures) ∙ at-match .keys3) in
+    let la : at-a-in2 .result < rulesIn given = omega arith in
+    ((omega (arith, at-start .pre .0)), (ready-at _ ready (root-in _ _ fit _ la), (at-start .pre .1 .1, la)))
 
 apply-a-in-requires-3 : (t : ℕ) → apply-lts.Need-a-in-requires-3 (apply-claims t) (apply-at t) apply.Post
 apply-a-in-requires-3 t c κs = search needs
@@ -261,15 +266,17 @@ apply-b-in-requires-2 t c κs = search needs
 
 apply-visit-sequence-requires : (t : ℕ) → apply-lts.Need-visit-sequence-requires (apply-claims t) (apply-at t) apply.Post
 apply-visit-sequence-requires t c κs =
+    let at-start = c .before .before .before .before .before .before .before .before in
     let at-a-in3 = c .before .a-in3 in
     let at-b-in2 = c .b-in2 in
-    let at-start = c .before .before .before .before .before .before .before .before in
     let at-kind-in = c .before .before .before .before .kind-in in
     let at-match = c .before .before .before .match in
+    let fit = at-start .pre .1 .0 .fit in
+    let ready = at-start .pre .1 .0 in
     let e = at-a-in3 .ensures .0 in
     let f = at-b-in2 .ensures .0 in
-    let k = sequence-children _ _ (at-start .pre .1 .0 .fit) (at-start .args .node) ((at-start .pre .1 .0) .node-in) (sym (at-kind-in .ensures) ∙ at-match .keys4) in
-    ((omega (arith, at-start .pre .0)), (ready-at _ (at-start .pre .1 .0) (omega arith), (at-start .pre .1 .1, omega arith)))
+    let k = sequence-children _ _ fit (at-start .args .node) (ready .node-in) (sym (at-kind-in .ensures) ∙ at-match .keys4) in
+    ((omega (arith, at-start .pre .0)), (ready-at _ ready (omega arith), (at-start .pre .1 .1, omega arith)))
 
 apply-a-in-requires-4 : (t : ℕ) → apply-lts.Need-a-in-requires-4 (apply-claims t) (apply-at t) apply.Post
 apply-a-in-requires-4 t c κs = search needs
@@ -279,48 +286,59 @@ apply-b-in-requires-3 t c κs = search needs
 
 apply-visit-choice-requires : (t : ℕ) → apply-lts.Need-visit-choice-requires (apply-claims t) (apply-at t) apply.Post
 apply-visit-choice-requires t c κs =
+    let at-start = c .before .before .before .before .before .before .before .before in
     let at-a-in4 = c .before .a-in4 in
     let at-b-in3 = c .b-in3 in
-    let at-start = c .before .before .before .before .before .before .before .before in
     let at-kind-in = c .before .before .before .before .kind-in in
     let at-match = c .before .before .before .match in
+    let fit = at-start .pre .1 .0 .fit in
+    let ready = at-start .pre .1 .0 in
     let e = at-a-in4 .ensures .0 in
     let f = at-b-in3 .ensures .0 in
-    let k = choice-children _ _ (at-start .pre .1 .0 .fit) (at-start .args .node) ((at-start .pre .1 .0) .node-in) (sym (at-kind-in .ensures) ∙ at-match .keys5) in
-    ((omega (arith, at-start .pre .0)), (ready-at _ (at-start .pre .1 .0) (omega arith), (at-start .pre .1 .1, omega arith)))
+    let k = choice-children _ _ fit (at-start .args .node) (ready .node-in) (sym (at-kind-in .ensures) ∙ at-match .keys5) in
+    ((omega (arith, at-start .pre .0)), (ready-at _ ready (omega arith), (at-start .pre .1 .1, omega arith)))
 
 apply-a-in-requires-5 : (t : ℕ) → apply-lts.Need-a-in-requires-5 (apply-claims t) (apply-at t) apply.Post
 apply-a-in-requires-5 t c κs = search needs
 
 apply-visit-not-requires : (t : ℕ) → apply-lts.Need-visit-not-requires (apply-claims t) (apply-at t) apply.Post
 apply-visit-not-requires t c κs =
-    let at-a-in5 = c .a-in5 in
     let at-start = c .before .before .before .before .before .before .before in
+    let at-a-in5 = c .a-in5 in
     let at-kind-in = c .before .before .before .kind-in in
     let at-match = c .before .before .match in
+    let fit = at-start .pre .1 .0 .fit in
+    let ready = at-start .pre .1 .0 in
     let e = at-a-in5 .ensures .0 in
-    let k = not-child _ _ (at-start .pre .1 .0 .fit) (at-start .args .node) ((at-start .pre .1 .0) .node-in) (sym (at-kind-in .ensures) ∙ at-match .keys6) in
-    ((omega (arith, at-start .pre .0)), (ready-at _ (at-start .pre .1 .0) (omega arith), at-start .pre .1 .1))
+    let k = not-child _ _ fit (at-start .args .node) (ready .node-in) (sym (at-kind-in .ensures) ∙ at-match .keys6) in
+    ((omega (arith, at-start .pre .0)), (ready-at _ ready (omega arith), at-start .pre .1 .1))
 
 apply-a-in-requires-6 : (t : ℕ) → apply-lts.Need-a-in-requires-6 (apply-claims t) (apply-at t) apply.Post
 apply-a-in-requires-6 t c κs = search needs
 
 apply-visit-repetition-requires : (t : ℕ) → apply-lts.Need-visit-repetition-requires (apply-claims t) (apply-at t) apply.Post
 apply-visit-repetition-requires t c κs =
-    let at-a-in6 = c .a-in6 in
     let at-start = c .before .before .before .before .before .before .before in
+    let at-a-in6 = c .a-in6 in
     let at-kind-in = c .before .before .before .kind-in in
     let at-match = c .before .before .match in
+    let fit = at-start .pre .1 .0 .fit in
+    let ready = at-start .pre .1 .0 in
     let e = at-a-in6 .ensures .0 in
-    let k = repetition-child _ _ (at-start .pre .1 .0 .fit) (at-start .args .node) ((at-start .pre .1 .0) .node-in) (sym (at-kind-in .ensures) ∙ at-match .keys7) in
-    ((omega (arith, at-start .pre .0)), (ready-at _ (at-start .pre .1 .0) (omega arith), (at-start .pre .1 .1, (at-start .pre .1 .0) .node-in)))
+    let k = repetition-child _ _ fit (at-start .args .node) (ready .node-in) (sym (at-kind-in .ensures) ∙ at-match .keys7) in
+    ((omega (arith, at-start .pre .0)), (ready-at _ ready (omega arith), (at-start .pre .1 .1, ready .node-in)))
 
 apply-returns : (t : ℕ) → apply-lts.Need-returns (apply-claims t) (apply-at t) apply.Post
 apply-returns t c =
     let at-start = c .before .before .before .before .before in
     let at-kind-in = c .before .kind-in in
     let at-match = c .match in
-    record { came = apply-empty _ _ (at-start .pre .1 .0 .fit) _ _ _ ((at-start .pre .1 .0) .node-in) ((at-start .pre .1 .0) .words) ((at-start .pre .1 .0) .made-in) (sym (at-kind-in .ensures) ∙ at-match .keys1) ((at-start .pre .1 .0) .pos-in); cells = omega arith }
+    let fit = at-start .pre .1 .0 .fit in
+    let ready = at-start .pre .1 .0 in
+    record {
+      came = apply-empty _ _ fit _ _ _ (ready .node-in) (ready .words) (ready .made-in) (sym (at-kind-in .ensures) ∙ at-match .keys1) (ready .pos-in);
+      cells = omega arith;
+    }
 
 apply-returns-2 : (t : ℕ) → apply-lts.Need-returns-2 (apply-claims t) (apply-at t) apply.Post
 apply-returns-2 t c =
@@ -330,7 +348,12 @@ apply-returns-2 t c =
     let at-a-in = c .before .before .a-in in
     let at-b-in = c .before .b-in in
     let at-range-end = c .range-end in
-    record { came = apply-range _ _ (at-start .pre .1 .0 .fit) _ _ _ ((at-start .pre .1 .0) .node-in) ((at-start .pre .1 .0) .words) ((at-start .pre .1 .0) .made-in) (sym (at-kind-in .ensures) ∙ at-match .keys2) _ _ _ (at-a-in .ensures .0) (at-b-in .ensures .0) (at-range-end .ensures); cells = omega arith }
+    let fit = at-start .pre .1 .0 .fit in
+    let ready = at-start .pre .1 .0 in
+    record {
+      came = apply-range _ _ fit _ _ _ (ready .node-in) (ready .words) (ready .made-in) (sym (at-kind-in .ensures) ∙ at-match .keys2) _ _ _ (at-a-in .ensures .0) (at-b-in .ensures .0) (at-range-end .ensures);
+      cells = omega arith;
+    }
 
 apply-same-length : (t : ℕ) → apply-lts.Need-same-length (apply-claims t) (apply-at t) apply.Post
 apply-same-length t c = search needs
@@ -342,7 +365,12 @@ apply-returns-3 t c =
     let at-match = c .before .before .before .before .before .match in
     let at-a-in2 = c .before .before .before .a-in2 in
     let at-use-rule = c .before .before .use-rule in
-    record { came = apply-rule _ _ (at-start .pre .1 .0 .fit) _ _ _ ((at-start .pre .1 .0) .node-in) (sym (at-kind-in .ensures) ∙ at-match .keys3) _ (at-a-in2 .ensures .0) (at-use-rule .ensures .came); cells = at-use-rule .ensures .cells }
+    let fit = at-start .pre .1 .0 .fit in
+    let ready = at-start .pre .1 .0 in
+    record {
+      came = apply-rule _ _ fit _ _ _ (ready .node-in) (sym (at-kind-in .ensures) ∙ at-match .keys3) _ (at-a-in2 .ensures .0) (at-use-rule .ensures .came);
+      cells = at-use-rule .ensures .cells;
+    }
 
 apply-same-length-2 : (t : ℕ) → apply-lts.Need-same-length-2 (apply-claims t) (apply-at t) apply.Post
 apply-same-length-2 t c = search needs
@@ -355,7 +383,12 @@ apply-returns-4 t c =
     let at-a-in3 = c .before .before .before .before .a-in3 in
     let at-b-in2 = c .before .before .before .b-in2 in
     let at-visit-sequence = c .before .before .visit-sequence in
-    record { came = apply-sequence _ _ (at-start .pre .1 .0 .fit) _ _ _ ((at-start .pre .1 .0) .node-in) (sym (at-kind-in .ensures) ∙ at-match .keys4) _ _ (at-a-in3 .ensures .0) (at-b-in2 .ensures .0) (at-visit-sequence .ensures .came); cells = at-visit-sequence .ensures .cells }
+    let fit = at-start .pre .1 .0 .fit in
+    let ready = at-start .pre .1 .0 in
+    record {
+      came = apply-sequence _ _ fit _ _ _ (ready .node-in) (sym (at-kind-in .ensures) ∙ at-match .keys4) _ _ (at-a-in3 .ensures .0) (at-b-in2 .ensures .0) (at-visit-sequence .ensures .came);
+      cells = at-visit-sequence .ensures .cells;
+    }
 
 apply-same-length-3 : (t : ℕ) → apply-lts.Need-same-length-3 (apply-claims t) (apply-at t) apply.Post
 apply-same-length-3 t c = search needs
@@ -368,7 +401,12 @@ apply-returns-5 t c =
     let at-a-in4 = c .before .before .before .before .a-in4 in
     let at-b-in3 = c .before .before .before .b-in3 in
     let at-visit-choice = c .before .before .visit-choice in
-    record { came = apply-choice _ _ (at-start .pre .1 .0 .fit) _ _ _ ((at-start .pre .1 .0) .node-in) (sym (at-kind-in .ensures) ∙ at-match .keys5) _ _ (at-a-in4 .ensures .0) (at-b-in3 .ensures .0) (at-visit-choice .ensures .came); cells = at-visit-choice .ensures .cells }
+    let fit = at-start .pre .1 .0 .fit in
+    let ready = at-start .pre .1 .0 in
+    record {
+      came = apply-choice _ _ fit _ _ _ (ready .node-in) (sym (at-kind-in .ensures) ∙ at-match .keys5) _ _ (at-a-in4 .ensures .0) (at-b-in3 .ensures .0) (at-visit-choice .ensures .came);
+      cells = at-visit-choice .ensures .cells;
+    }
 
 apply-same-length-4 : (t : ℕ) → apply-lts.Need-same-length-4 (apply-claims t) (apply-at t) apply.Post
 apply-same-length-4 t c = search needs
@@ -380,7 +418,12 @@ apply-returns-6 t c =
     let at-match = c .before .before .before .before .before .match in
     let at-a-in5 = c .before .before .before .a-in5 in
     let at-visit-not = c .before .before .visit-not in
-    record { came = apply-not _ _ (at-start .pre .1 .0 .fit) _ _ _ ((at-start .pre .1 .0) .node-in) (sym (at-kind-in .ensures) ∙ at-match .keys6) _ (at-a-in5 .ensures .0) (at-visit-not .ensures .came); cells = at-visit-not .ensures .cells }
+    let fit = at-start .pre .1 .0 .fit in
+    let ready = at-start .pre .1 .0 in
+    record {
+      came = apply-not _ _ fit _ _ _ (ready .node-in) (sym (at-kind-in .ensures) ∙ at-match .keys6) _ (at-a-in5 .ensures .0) (at-visit-not .ensures .came);
+      cells = at-visit-not .ensures .cells;
+    }
 
 apply-same-length-5 : (t : ℕ) → apply-lts.Need-same-length-5 (apply-claims t) (apply-at t) apply.Post
 apply-same-length-5 t c = search needs
@@ -392,21 +435,32 @@ apply-returns-7 t c =
     let at-match = c .before .before .before .before .before .match in
     let at-a-in6 = c .before .before .before .a-in6 in
     let at-visit-repetition = c .before .before .visit-repetition in
-    record { came = apply-repetition _ _ (at-start .pre .1 .0 .fit) _ _ _ ((at-start .pre .1 .0) .node-in) (sym (at-kind-in .ensures) ∙ at-match .keys7) _ (at-a-in6 .ensures .0) (at-visit-repetition .ensures .came); cells = at-visit-repetition .ensures .cells }
+    let fit = at-start .pre .1 .0 .fit in
+    let ready = at-start .pre .1 .0 in
+    record {
+      came = apply-repetition _ _ fit _ _ _ (ready .node-in) (sym (at-kind-in .ensures) ∙ at-match .keys7) _ (at-a-in6 .ensures .0) (at-visit-repetition .ensures .came);
+      cells = at-visit-repetition .ensures .cells;
+    }
 
 apply-returns-8 : (t : ℕ) → apply-lts.Need-returns-8 (apply-claims t) (apply-at t) apply.Post
 apply-returns-8 t c =
+    let at-start = c .before .before .before .before .before in
     let at-match = c .match in
     let at-kind-in = c .before .kind-in in
-    let at-start = c .before .before .before .before .before in
+    let fit = at-start .pre .1 .0 .fit in
+    let ready = at-start .pre .1 .0 in
     let r = at-match .rest in
     let q = above-six (at-kind-in .result) (r .0 .0 .0 .0 .0 .0 .1) (r .0 .0 .0 .0 .0 .1) (r .0 .0 .0 .0 .1) (r .0 .0 .0 .1) (r .0 .0 .1) (r .0 .1) (r .1) in
-    record { came = apply-above _ _ (at-start .pre .1 .0 .fit) _ _ _ ((at-start .pre .1 .0) .node-in) ((at-start .pre .1 .0) .words) ((at-start .pre .1 .0) .made-in) (q .0) (sym (at-kind-in .ensures) ∙ q .1) ((at-start .pre .1 .0) .pos-in); cells = omega arith }
+    record {
+      came = apply-above _ _ fit _ _ _ (ready .node-in) (ready .words) (ready .made-in) (q .0) (sym (at-kind-in .ensures) ∙ q .1) (ready .pos-in);
+      cells = omega arith;
+    }
 
 use-free-visit-requires : (t : ℕ) → use-free-lts.Need-visit-requires (use-free-claims t) (use-free-at t) use-free.Post
 use-free-visit-requires t c κs =
     let at-start = c .before .before .before in
-    ((omega (arith, at-start .pre .0)), (at-start .pre .1 .0))
+    let ready = at-start .pre .1 .0 in
+    ((omega (arith, at-start .pre .0)), ready)
 
 use-free-same-length : (t : ℕ) → use-free-lts.Need-same-length (use-free-claims t) (use-free-at t) use-free.Post
 use-free-same-length t c = search needs
@@ -416,37 +470,55 @@ use-free-returns t c =
     let at-start = c .before .before .before .before .before .before .before .before in
     let at-visit = c .before .before .before .before .visit in
     let at-if1 = c .if1 in
-    record { came = use-unmatched _ _ (at-start .pre .1 .0 .fit) (reading (at-start .args .given .now) (at-start .args .line .now) (at-start .args .left)) _ _ (at-visit .ensures .came) _ (at-if1 .taken); cells = at-visit .ensures .cells }
+    let fit = at-start .pre .1 .0 .fit in
+    let given = at-start .args .given .now in
+    let line = at-start .args .line .now in
+    let left = at-start .args .left in
+    let visiting = reading given line left in
+    let one = at-visit .ensures .came in
+    record {
+      came = use-unmatched _ _ fit visiting _ _ one _ (at-if1 .taken);
+      cells = at-visit .ensures .cells;
+    }
 
 use-free-put-tree-requires : (t : ℕ) → use-free-lts.Need-put-tree-requires (use-free-claims t) (use-free-at t) use-free.Post
 use-free-put-tree-requires t c κs =
     let at-visit = c .before .before .before .before .before .visit in
-    let at-if1 = c .before .if1 in
     let at-start = c .before .before .before .before .before .before .before .before .before in
+    let at-if1 = c .before .if1 in
+    let one = at-visit .ensures .came in
+    let ready = at-start .pre .1 .0 in
+    let fit = at-start .pre .1 .0 .fit in
     let f = at-visit .ensures .fewer (at-if1 .left) in
-    let h = (at-visit .ensures .came) .list-in (at-if1 .left) in
-    let e = (at-visit .ensures .came) .end-in (at-if1 .left) in
-    let m = (at-visit .ensures .came) .made-in in
-    let r = (at-visit .ensures .came) .words .room in
-    let t = (at-start .pre .1 .0) .top-in in
-    let p = (at-start .pre .1 .0) .pos-in in
-    let s = (at-start .pre .1 .0 .fit) .short in
-    let al = (at-start .pre .1 .0 .fit) .allowance in
-    (((at-visit .ensures .came) .words .arena, h), ((omega arith, omega arith), (at-start .pre .1 .1 .1, (omega arith, omega arith))))
+    let h = one .list-in (at-if1 .left) in
+    let e = one .end-in (at-if1 .left) in
+    let m = one .made-in in
+    let r = one .words .room in
+    let t = ready .top-in in
+    let p = ready .pos-in in
+    let s = fit .short in
+    let al = fit .allowance in
+    ((one .words .arena, h), ((omega arith, omega arith), (at-start .pre .1 .1 .1, (omega arith, omega arith))))
 
 use-free-add-t18 : (t : ℕ) → use-free-lts.Need-add-t18 (use-free-claims t) (use-free-at t) use-free.Post
 use-free-add-t18 t c =
     let at-visit = c .before .before .before .before .before .before .before .before .before .visit in
-    let at-if1 = c .before .before .before .before .before .if1 in
     let at-start = c .before .before .before .before .before .before .before .before .before .before .before .before .before in
-    omega (arith, at-visit .ensures .fewer (at-if1 .left), (at-visit .ensures .came) .made-in, (at-start .pre .1 .0) .top-in, (at-start .pre .1 .0 .fit) .allowance)
+    let at-if1 = c .before .before .before .before .before .if1 in
+    let one = at-visit .ensures .came in
+    let ready = at-start .pre .1 .0 in
+    let fit = at-start .pre .1 .0 .fit in
+    omega (arith, at-visit .ensures .fewer (at-if1 .left), one .made-in, ready .top-in, fit .allowance)
 
 use-free-add-t19 : (t : ℕ) → use-free-lts.Need-add-t19 (use-free-claims t) (use-free-at t) use-free.Post
 use-free-add-t19 t c =
     let at-visit = c .before .before .before .before .before .before .before .before .before .before .visit in
-    let at-if1 = c .before .before .before .before .before .before .if1 in
     let at-start = c .before .before .before .before .before .before .before .before .before .before .before .before .before .before in
-    omega (arith, at-visit .ensures .fewer (at-if1 .left), (at-visit .ensures .came) .made-in, (at-start .pre .1 .0) .top-in, (at-start .pre .1 .0 .fit) .allowance)
+    let at-if1 = c .before .before .before .before .before .before .if1 in
+    let one = at-visit .ensures .came in
+    let ready = at-start .pre .1 .0 in
+    let fit = at-start .pre .1 .0 .fit in
+    omega (arith, at-visit .ensures .fewer (at-if1 .left), one .made-in, ready .top-in, fit .allowance)
 
 use-free-same-length-2 : (t : ℕ) → use-free-lts.Need-same-length-2 (use-free-claims t) (use-free-at t) use-free.Post
 use-free-same-length-2 t c = search needs
@@ -454,14 +526,24 @@ use-free-same-length-2 t c = search needs
 use-free-returns-2 : (t : ℕ) → use-free-lts.Need-returns-2 (use-free-claims t) (use-free-at t) use-free.Post
 use-free-returns-2 t c =
     let at-visit = c .before .before .before .before .before .before .before .before .before .before .visit in
-    let at-if1 = c .before .before .before .before .before .before .if1 in
     let at-start = c .before .before .before .before .before .before .before .before .before .before .before .before .before .before in
+    let at-if1 = c .before .before .before .before .before .before .if1 in
     let at-put-tree = c .before .before .before .before .put-tree in
+    let one = at-visit .ensures .came in
+    let ready = at-start .pre .1 .0 in
+    let fit = at-start .pre .1 .0 .fit in
+    let given = at-start .args .given .now in
+    let line = at-start .args .line .now in
+    let left = at-start .args .left in
+    let visiting = reading given line left in
     let f = at-visit .ensures .fewer (at-if1 .left) in
-    let m = (at-visit .ensures .came) .made-in in
-    let t = (at-start .pre .1 .0) .top-in in
+    let m = one .made-in in
+    let t = ready .top-in in
     let o = at-start .pre .1 .1 .0 in
-    record { came = use-tree _ _ (at-start .pre .1 .0 .fit) (reading (at-start .args .given .now) (at-start .args .line .now) (at-start .args .left)) _ _ (at-visit .ensures .came) _ (at-if1 .left) (omega arith) (omega arith) (at-put-tree .ensures .1); cells = omega arith }
+    record {
+      came = use-tree _ _ fit visiting _ _ one _ (at-if1 .left) (omega arith) (omega arith) (at-put-tree .ensures .1);
+      cells = omega arith;
+    }
 
 abbrev use-live-Inv-loop : use-live-lts.InvT-loop
 use-live-Inv-loop given line work₀ left live made top rule root pos key end₀ made₀ top₀ work end made' top' = Growing given line (reading given line left) root rule pos live work₀ end₀ made₀ top₀ work end made' top'
@@ -485,7 +567,9 @@ use-live-visit-requires : (t : ℕ) → use-live-lts.Need-visit-requires (use-li
 use-live-visit-requires t c κs =
     let at-start = c .before .before .before .before .before .before .before in
     let at-put-use = c .before .before .before .put-use in
-    ((omega (arith, at-start .pre .0)), ready-live _ 0 0 (at-start .pre .1 .0) (at-start .pre .1 .1 .0 .0) (omega arith) (omega arith) (at-put-use .ensures))
+    let ready = at-start .pre .1 .0 in
+    let few-open = at-start .pre .1 .1 .0 .0 in
+    ((omega (arith, at-start .pre .0)), ready-live _ 0 0 ready few-open (omega arith) (omega arith) (at-put-use .ensures))
 
 use-live-same-length : (t : ℕ) → use-live-lts.Need-same-length (use-live-claims t) (use-live-at t) use-live.Post use-live-Inv-loop use-live-μ-loop
 use-live-same-length t c = search needs
@@ -493,10 +577,29 @@ use-live-same-length t c = search needs
 use-live-returns : (t : ℕ) → use-live-lts.Need-returns (use-live-claims t) (use-live-at t) use-live.Post use-live-Inv-loop use-live-μ-loop
 use-live-returns t c =
     let at-start = c .before .before .before .before .before .before .before .before .before .before .before .before in
-    let at-put-use = c .before .before .before .before .before .before .before .before .put-use in
     let at-visit = c .before .before .before .before .visit in
+    let at-put-use = c .before .before .before .before .before .before .before .before .put-use in
     let at-if1 = c .if1 in
-    record { came = first-out _ _ (at-start .pre .1 .0 .fit) (reading (at-start .args .given .now) (at-start .args .line .now) (at-start .args .left)) (at-start .args .root) (at-start .args .rule) (at-start .args .pos) (λ l s e. visit-none-left (grammarIn (at-start .args .given .now)) (at-start .args .line .now) (keepsIn (at-start .args .given .now)) l (at-start .args .root) (at-start .args .pos) s (at-start .args .left) e) (at-start .pre .1 .1 .0 .1 .1 .1 ∙ root-is _ _ (at-start .pre .1 .0 .fit) _ (at-start .pre .1 .1 .0 .1 .1 .0)) (at-start .pre .1 .1 .1) (while-live _ _ (at-start .pre .1 .0 .fit) (at-start .args .rule) (at-start .args .pos) 0 0 ((at-start .pre .1 .0) .words) (omega (arith, (at-start .pre .1 .1 .0 .0))) (omega arith) (omega arith) (at-start .pre .1 .1 .0 .1 .0) fail refl (at-start .pre .1 .1 .1) (λ l s. reading (at-start .args .given .now) (at-start .args .line .now) (at-start .args .left) l (at-start .args .root) (at-start .args .pos) s) (at-put-use .ensures) (at-visit .ensures .came)) (at-if1 .taken); cells = at-visit .ensures .cells }
+    let fit = at-start .pre .1 .0 .fit in
+    let given = at-start .args .given .now in
+    let line = at-start .args .line .now in
+    let left = at-start .args .left in
+    let visiting = reading given line left in
+    let root = at-start .args .root in
+    let rule = at-start .args .rule in
+    let pos = at-start .args .pos in
+    let known = at-start .pre .1 .1 .0 .1 .1 .0 in
+    let rooted = at-start .pre .1 .1 .0 .1 .1 .1 ∙ root-is _ _ fit _ known in
+    let fresh = at-start .pre .1 .1 .1 in
+    let ready = at-start .pre .1 .0 in
+    let few-open = at-start .pre .1 .1 .0 .0 in
+    let small-rule = at-start .pre .1 .1 .0 .1 .0 in
+    let one = at-visit .ensures .came in
+    let first-attempt = while-live _ _ fit rule pos 0 0 (ready .words) (omega (arith, few-open)) (omega arith) (omega arith) small-rule fail refl fresh (λ l s. reading given line left l root pos s) (at-put-use .ensures) one in
+    record {
+      came = first-out _ _ fit visiting root rule pos (λ l s e. visit-none-left (grammarIn given) line (keepsIn given) l root pos s left e) rooted fresh first-attempt (at-if1 .taken);
+      cells = at-visit .ensures .cells;
+    }
 
 use-live-add-top : (t : ℕ) → use-live-lts.Need-add-top (use-live-claims t) (use-live-at t) use-live.Post use-live-Inv-loop use-live-μ-loop
 use-live-add-top t c = search needs
@@ -504,38 +607,59 @@ use-live-add-top t c = search needs
 use-live-put-tree-requires : (t : ℕ) → use-live-lts.Need-put-tree-requires (use-live-claims t) (use-live-at t) use-live.Post use-live-Inv-loop use-live-μ-loop
 use-live-put-tree-requires t c κs =
     let at-visit = c .before .before .before .before .before .before .visit in
-    let at-if1 = c .before .before .if1 in
     let at-start = c .before .before .before .before .before .before .before .before .before .before .before .before .before .before in
+    let at-if1 = c .before .before .if1 in
+    let one = at-visit .ensures .came in
+    let ready = at-start .pre .1 .0 in
+    let fit = at-start .pre .1 .0 .fit in
+    let small-rule = at-start .pre .1 .1 .0 .1 .0 in
     let f = at-visit .ensures .fewer (at-if1 .left) in
-    let h = (at-visit .ensures .came) .list-in (at-if1 .left) in
-    let e = (at-visit .ensures .came) .end-in (at-if1 .left) in
-    let m = (at-visit .ensures .came) .made-in in
-    let r = (at-visit .ensures .came) .words .room in
-    let t = (at-start .pre .1 .0) .top-in in
-    let p = (at-start .pre .1 .0) .pos-in in
-    let s = (at-start .pre .1 .0 .fit) .short in
-    let al = (at-start .pre .1 .0 .fit) .allowance in
-    (((at-visit .ensures .came) .words .arena, h), ((omega arith, omega arith), ((at-start .pre .1 .1 .0 .1 .0), (omega arith, omega arith))))
+    let h = one .list-in (at-if1 .left) in
+    let e = one .end-in (at-if1 .left) in
+    let m = one .made-in in
+    let r = one .words .room in
+    let t = ready .top-in in
+    let p = ready .pos-in in
+    let s = fit .short in
+    let al = fit .allowance in
+    ((one .words .arena, h), ((omega arith, omega arith), (small-rule, (omega arith, omega arith))))
 
 use-live-loop-holds : (t : ℕ) → use-live-lts.Need-loop-holds (use-live-claims t) (use-live-at t) use-live.Post use-live-Inv-loop use-live-μ-loop
 use-live-loop-holds t c =
     let at-start = c .before .before .before .before .before .before .before .before .before .before .before .before .before .before .before .before .before in
     let at-visit = c .before .before .before .before .before .before .before .before .before .visit in
+    let at-put-use = c .before .before .before .before .before .before .before .before .before .before .before .before .before .put-use in
     let at-if1 = c .before .before .before .before .before .if1 in
     let at-put-tree = c .before .before .put-tree in
-    let at-put-use = c .before .before .before .before .before .before .before .before .before .before .before .before .before .put-use in
-    begins _ _ (at-start .pre .1 .0 .fit) (reading (at-start .args .given .now) (at-start .args .line .now) (at-start .args .left)) (at-start .args .root) (at-start .args .rule) (at-start .args .pos) (λ l s e. visit-none-left (grammarIn (at-start .args .given .now)) (at-start .args .line .now) (keepsIn (at-start .args .given .now)) l (at-start .args .root) (at-start .args .pos) s (at-start .args .left) e) (made-words _ _ (at-start .pre .1 .0 .fit) (omega (arith, (at-start .pre .1 .1 .0 .0))) (omega (arith, at-visit .ensures .fewer (at-if1 .left), (at-visit .ensures .came) .made-in, (at-start .pre .1 .0) .top-in)) (at-put-tree .ensures .1) ((while-live _ _ (at-start .pre .1 .0 .fit) (at-start .args .rule) (at-start .args .pos) 0 0 ((at-start .pre .1 .0) .words) (omega (arith, (at-start .pre .1 .1 .0 .0))) (omega arith) (omega arith) (at-start .pre .1 .1 .0 .1 .0) fail refl (at-start .pre .1 .1 .1) (λ l s. reading (at-start .args .given .now) (at-start .args .line .now) (at-start .args .left) l (at-start .args .root) (at-start .args .pos) s) (at-put-use .ensures) (at-visit .ensures .came)) .words)) ((while-live _ _ (at-start .pre .1 .0 .fit) (at-start .args .rule) (at-start .args .pos) 0 0 ((at-start .pre .1 .0) .words) (omega (arith, (at-start .pre .1 .1 .0 .0))) (omega arith) (omega arith) (at-start .pre .1 .1 .0 .1 .0) fail refl (at-start .pre .1 .1 .1) (λ l s. reading (at-start .args .given .now) (at-start .args .line .now) (at-start .args .left) l (at-start .args .root) (at-start .args .pos) s) (at-put-use .ensures) (at-visit .ensures .came)) .end-in (at-if1 .left)) (omega arith) ((while-live _ _ (at-start .pre .1 .0 .fit) (at-start .args .rule) (at-start .args .pos) 0 0 ((at-start .pre .1 .0) .words) (omega (arith, (at-start .pre .1 .1 .0 .0))) (omega arith) (omega arith) (at-start .pre .1 .1 .0 .1 .0) fail refl (at-start .pre .1 .1 .1) (λ l s. reading (at-start .args .given .now) (at-start .args .line .now) (at-start .args .left) l (at-start .args .root) (at-start .args .pos) s) (at-put-use .ensures) (at-visit .ensures .came)) .made-in) (at-put-tree .ensures .1 .is)
+    let fit = at-start .pre .1 .0 .fit in
+    let given = at-start .args .given .now in
+    let line = at-start .args .line .now in
+    let left = at-start .args .left in
+    let visiting = reading given line left in
+    let root = at-start .args .root in
+    let rule = at-start .args .rule in
+    let pos = at-start .args .pos in
+    let few-open = at-start .pre .1 .1 .0 .0 in
+    let one = at-visit .ensures .came in
+    let ready = at-start .pre .1 .0 in
+    let small-rule = at-start .pre .1 .1 .0 .1 .0 in
+    let fresh = at-start .pre .1 .1 .1 in
+    let first-attempt = while-live _ _ fit rule pos 0 0 (ready .words) (omega (arith, few-open)) (omega arith) (omega arith) small-rule fail refl fresh (λ l s. reading given line left l root pos s) (at-put-use .ensures) one in
+    begins _ _ fit visiting root rule pos (λ l s e. visit-none-left (grammarIn given) line (keepsIn given) l root pos s left e)
+    (made-words _ _ fit (omega (arith, few-open)) (omega (arith, at-visit .ensures .fewer (at-if1 .left), one .made-in, ready .top-in)) (at-put-tree .ensures .1) (first-attempt .words)) (first-attempt .end-in (at-if1 .left)) (omega arith) (first-attempt .made-in) (at-put-tree .ensures .1 .is)
 
 use-live-put-use-requires-2 : (t : ℕ) → use-live-lts.Need-put-use-requires-2 (use-live-claims t) (use-live-at t) use-live.Post use-live-Inv-loop use-live-μ-loop
 use-live-put-use-requires-2 t c κs =
-    let at-loop = c .before .loop in
     let at-start = c .before .before .before .before .before .before .before .before .before .before .before .before .before .before .before .before .before .before .before in
-    (omega (arith, at-loop .inv .words .room, (at-start .pre .1 .1 .0 .0)), omega (arith, (at-start .pre .1 .1 .0 .0)))
+    let at-loop = c .before .loop in
+    let few-open = at-start .pre .1 .1 .0 .0 in
+    (omega (arith, at-loop .inv .words .room, few-open), omega (arith, few-open))
 
 use-live-add-visit-2 : (t : ℕ) → use-live-lts.Need-add-visit-2 (use-live-claims t) (use-live-at t) use-live.Post use-live-Inv-loop use-live-μ-loop
 use-live-add-visit-2 t c =
     let at-start = c .before .before .before .before .before .before .before .before .before .before .before .before .before .before .before .before .before .before .before .before .before .before .before in
-    omega (arith, (at-start .pre .1 .1 .0 .0))
+    let few-open = at-start .pre .1 .1 .0 .0 in
+    omega (arith, few-open)
 
 use-live-visit-requires-2 : (t : ℕ) → use-live-lts.Need-visit-requires-2 (use-live-claims t) (use-live-at t) use-live.Post use-live-Inv-loop use-live-μ-loop
 use-live-visit-requires-2 t c κs =
@@ -544,7 +668,10 @@ use-live-visit-requires-2 t c κs =
     let at-if1 = c .before .before .before .before .before .before .before .before .before .before .before .if1 in
     let at-loop = c .before .before .before .before .before .loop in
     let at-put-use2 = c .before .before .before .put-use2 in
-    ((omega (arith, at-start .pre .0)), ready-live _ _ _ (ready-loop (at-start .pre .1 .0) (omega (arith, at-visit .ensures .fewer (at-if1 .left), (at-start .pre .1 .0) .top-in)) (at-loop .inv)) (at-start .pre .1 .1 .0 .0) (at-loop .inv .end-in) (omega arith) (at-put-use2 .ensures))
+    let ready = at-start .pre .1 .0 in
+    let ready-again = ready-loop ready (omega (arith, at-visit .ensures .fewer (at-if1 .left), ready .top-in)) (at-loop .inv) in
+    let few-open = at-start .pre .1 .1 .0 .0 in
+    ((omega (arith, at-start .pre .0)), ready-live _ _ _ ready-again few-open (at-loop .inv .end-in) (omega arith) (at-put-use2 .ensures))
 
 use-live-add-top-2 : (t : ℕ) → use-live-lts.Need-add-top-2 (use-live-claims t) (use-live-at t) use-live.Post use-live-Inv-loop use-live-μ-loop
 use-live-add-top-2 t c =
@@ -555,7 +682,13 @@ use-live-add-top-2 t c =
     let at-visit = c .before .before .before .before .before .before .before .before .before .before .before .before .before .before .before .before .before .before .before .before .before .before .before .before .before .visit in
     let at-if1 = c .before .before .before .before .before .before .before .before .before .before .before .before .before .before .before .before .before .before .before .before .before .if1 in
     let at-loop = c .before .before .before .before .before .before .before .before .before .before .before .before .before .before .before .loop in
-    omega (arith, (at-visit2 .ensures .fewer (let e = at-if2 .left in let f = at-if3 .left in let m = (at-visit2 .ensures .came) .end-most in omega arith)), (at-visit2 .ensures .came) .made-in, (ready-loop (at-start .pre .1 .0) (omega (arith, at-visit .ensures .fewer (at-if1 .left), (at-start .pre .1 .0) .top-in)) (at-loop .inv)) .top-in, (at-start .pre .1 .0 .fit) .allowance)
+    let two = at-visit2 .ensures .came in
+    let grown : (at-visit2 .result) .end < 65534 = let e = at-if2 .left in let f = at-if3 .left in let m = two .end-most in omega arith in
+    let fewer-cells = at-visit2 .ensures .fewer grown in
+    let ready = at-start .pre .1 .0 in
+    let ready-again = ready-loop ready (omega (arith, at-visit .ensures .fewer (at-if1 .left), ready .top-in)) (at-loop .inv) in
+    let fit = at-start .pre .1 .0 .fit in
+    omega (arith, fewer-cells, two .made-in, ready-again .top-in, fit .allowance)
 
 use-live-put-tree-requires-2 : (t : ℕ) → use-live-lts.Need-put-tree-requires-2 (use-live-claims t) (use-live-at t) use-live.Post use-live-Inv-loop use-live-μ-loop
 use-live-put-tree-requires-2 t c κs =
@@ -566,39 +699,70 @@ use-live-put-tree-requires-2 t c κs =
     let at-visit = c .before .before .before .before .before .before .before .before .before .before .before .before .before .before .before .before .before .before .before .before .before .before .before .before .before .before .visit in
     let at-if1 = c .before .before .before .before .before .before .before .before .before .before .before .before .before .before .before .before .before .before .before .before .before .before .if1 in
     let at-loop = c .before .before .before .before .before .before .before .before .before .before .before .before .before .before .before .before .loop in
-    let f = (at-visit2 .ensures .fewer (let e = at-if2 .left in let f = at-if3 .left in let m = (at-visit2 .ensures .came) .end-most in omega arith)) in
-    let h = (at-visit2 .ensures .came) .list-in (let e = at-if2 .left in let f = at-if3 .left in let m = (at-visit2 .ensures .came) .end-most in omega arith) in
-    let e = (at-visit2 .ensures .came) .end-in (let e = at-if2 .left in let f = at-if3 .left in let m = (at-visit2 .ensures .came) .end-most in omega arith) in
-    let m = (at-visit2 .ensures .came) .made-in in
-    let r = (at-visit2 .ensures .came) .words .room in
-    let t = (ready-loop (at-start .pre .1 .0) (omega (arith, at-visit .ensures .fewer (at-if1 .left), (at-start .pre .1 .0) .top-in)) (at-loop .inv)) .top-in in
-    let p = (at-start .pre .1 .0) .pos-in in
-    let s = (at-start .pre .1 .0 .fit) .short in
-    let al = (at-start .pre .1 .0 .fit) .allowance in
-    (((at-visit2 .ensures .came) .words .arena, h), ((omega arith, omega arith), ((at-start .pre .1 .1 .0 .1 .0), (omega arith, omega arith))))
+    let two = at-visit2 .ensures .came in
+    let grown : (at-visit2 .result) .end < 65534 = let e = at-if2 .left in let f = at-if3 .left in let m = two .end-most in omega arith in
+    let fewer-cells = at-visit2 .ensures .fewer grown in
+    let ready = at-start .pre .1 .0 in
+    let ready-again = ready-loop ready (omega (arith, at-visit .ensures .fewer (at-if1 .left), ready .top-in)) (at-loop .inv) in
+    let fit = at-start .pre .1 .0 .fit in
+    let small-rule = at-start .pre .1 .1 .0 .1 .0 in
+    let f = fewer-cells in
+    let h = two .list-in grown in
+    let e = two .end-in grown in
+    let m = two .made-in in
+    let r = two .words .room in
+    let t = ready-again .top-in in
+    let p = ready .pos-in in
+    let s = fit .short in
+    let al = fit .allowance in
+    ((two .words .arena, h), ((omega arith, omega arith), (small-rule, (omega arith, omega arith))))
 
 use-live-loop-less : (t : ℕ) → use-live-lts.Need-loop-less (use-live-claims t) (use-live-at t) use-live.Post use-live-Inv-loop use-live-μ-loop
 use-live-loop-less t c =
     let at-visit2 = c .before .before .before .before .before .before .before .before .before .before .before .before .before .visit2 in
     let at-if2 = c .before .before .before .before .before .before .before .before .before .if2 in
     let at-if3 = c .before .before .before .before .before .before .before .if3 in
-    omega (arith, (at-visit2 .ensures .fewer (let e = at-if2 .left in let f = at-if3 .left in let m = (at-visit2 .ensures .came) .end-most in omega arith)), (at-visit2 .ensures .came) .made-in, (at-visit2 .ensures .came) .top-up)
+    let two = at-visit2 .ensures .came in
+    let grown : (at-visit2 .result) .end < 65534 = let e = at-if2 .left in let f = at-if3 .left in let m = two .end-most in omega arith in
+    let fewer-cells = at-visit2 .ensures .fewer grown in
+    omega (arith, fewer-cells, two .made-in, two .top-up)
 
 use-live-loop-again : (t : ℕ) → use-live-lts.Need-loop-again (use-live-claims t) (use-live-at t) use-live.Post use-live-Inv-loop use-live-μ-loop
 use-live-loop-again t c =
     let at-start = c .before .before .before .before .before .before .before .before .before .before .before .before .before .before .before .before .before .before .before .before .before .before .before .before .before .before .before .before .before .before .before .before .before .before .before .before .before in
-    let at-loop = c .before .before .before .before .before .before .before .before .before .before .before .before .before .before .before .before .before .before .before .loop in
     let at-visit = c .before .before .before .before .before .before .before .before .before .before .before .before .before .before .before .before .before .before .before .before .before .before .before .before .before .before .before .before .before .visit in
+    let at-put-use = c .before .before .before .before .before .before .before .before .before .before .before .before .before .before .before .before .before .before .before .before .before .before .before .before .before .before .before .before .before .before .before .before .before .put-use in
+    let at-loop = c .before .before .before .before .before .before .before .before .before .before .before .before .before .before .before .before .before .before .before .loop in
     let at-if1 = c .before .before .before .before .before .before .before .before .before .before .before .before .before .before .before .before .before .before .before .before .before .before .before .before .before .if1 in
     let at-put-tree = c .before .before .before .before .before .before .before .before .before .before .before .before .before .before .before .before .before .before .before .before .before .before .put-tree in
-    let at-put-use = c .before .before .before .before .before .before .before .before .before .before .before .before .before .before .before .before .before .before .before .before .before .before .before .before .before .before .before .before .before .before .before .before .before .put-use in
-    let at-put-use2 = c .before .before .before .before .before .before .before .before .before .before .before .before .before .before .before .before .before .put-use2 in
     let at-visit2 = c .before .before .before .before .before .before .before .before .before .before .before .before .before .visit2 in
-    let at-if4 = c .before .before .before .before .before .if4 in
+    let at-put-use2 = c .before .before .before .before .before .before .before .before .before .before .before .before .before .before .before .before .before .put-use2 in
     let at-if2 = c .before .before .before .before .before .before .before .before .before .if2 in
     let at-if3 = c .before .before .before .before .before .before .before .if3 in
+    let at-if4 = c .before .before .before .before .before .if4 in
     let at-put-tree2 = c .before .before .put-tree2 in
-    turns _ _ (at-start .pre .1 .0 .fit) (reading (at-start .args .given .now) (at-start .args .line .now) (at-start .args .left)) (at-start .args .root) (at-start .args .rule) (at-start .args .pos) (λ l s e. visit-none-left (grammarIn (at-start .args .given .now)) (at-start .args .line .now) (keepsIn (at-start .args .given .now)) l (at-start .args .root) (at-start .args .pos) s (at-start .args .left) e) (at-loop .inv) (while-live _ _ (at-start .pre .1 .0 .fit) (at-start .args .rule) (at-start .args .pos) (at-loop .end) (at-loop .top) (at-loop .inv .words) (omega (arith, (at-start .pre .1 .1 .0 .0))) (at-loop .inv .end-in) (omega arith) (at-start .pre .1 .1 .0 .1 .0) (ok (at-loop .end) (kids (treesAt (at-loop .work) (at-loop .top)))) (λ z. let q = at-loop .inv .top-in in omega arith, refl, at-loop .inv .held) (fresh-same _ _ (at-loop .inv .same) (fresh-same _ _ (made-same _ _ {live = at-start .args .live} (at-start .pre .1 .0 .fit) (omega (arith, (at-start .pre .1 .1 .0 .0))) (omega (arith, at-visit .ensures .fewer (at-if1 .left), (at-visit .ensures .came) .made-in, (at-start .pre .1 .0) .top-in)) (at-put-tree .ensures .1)) (fresh-same _ _ ((while-live _ _ (at-start .pre .1 .0 .fit) (at-start .args .rule) (at-start .args .pos) 0 0 ((at-start .pre .1 .0) .words) (omega (arith, (at-start .pre .1 .1 .0 .0))) (omega arith) (omega arith) (at-start .pre .1 .1 .0 .1 .0) fail refl (at-start .pre .1 .1 .1) (λ l s. reading (at-start .args .given .now) (at-start .args .line .now) (at-start .args .left) l (at-start .args .root) (at-start .args .pos) s) (at-put-use .ensures) (at-visit .ensures .came)) .same) (at-start .pre .1 .1 .1)))) (λ l s. reading (at-start .args .given .now) (at-start .args .line .now) (at-start .args .left) l (at-start .args .root) (at-start .args .pos) s) (at-put-use2 .ensures) (at-visit2 .ensures .came)) (at-if4 .left) (let e = at-if2 .left in let f = at-if3 .left in let m = (at-visit2 .ensures .came) .end-most in omega arith) (omega (arith, (at-start .pre .1 .1 .0 .0))) (omega (arith, (at-visit2 .ensures .fewer (let e = at-if2 .left in let f = at-if3 .left in let m = (at-visit2 .ensures .came) .end-most in omega arith)), (at-visit2 .ensures .came) .made-in, (ready-loop (at-start .pre .1 .0) (omega (arith, at-visit .ensures .fewer (at-if1 .left), (at-start .pre .1 .0) .top-in)) (at-loop .inv)) .top-in)) (at-visit2 .ensures .fewer (let e = at-if2 .left in let f = at-if3 .left in let m = (at-visit2 .ensures .came) .end-most in omega arith)) (at-visit2 .kept .1 .1 .0 ∙ at-put-use2 .kept .0) (at-put-tree2 .ensures .1)
+    let fit = at-start .pre .1 .0 .fit in
+    let given = at-start .args .given .now in
+    let line = at-start .args .line .now in
+    let left = at-start .args .left in
+    let visiting = reading given line left in
+    let root = at-start .args .root in
+    let rule = at-start .args .rule in
+    let pos = at-start .args .pos in
+    let few-open = at-start .pre .1 .1 .0 .0 in
+    let small-rule = at-start .pre .1 .1 .0 .1 .0 in
+    let one = at-visit .ensures .came in
+    let ready = at-start .pre .1 .0 in
+    let fresh = at-start .pre .1 .1 .1 in
+    let first-attempt = while-live _ _ fit rule pos 0 0 (ready .words) (omega (arith, few-open)) (omega arith) (omega arith) small-rule fail refl fresh (λ l s. reading given line left l root pos s) (at-put-use .ensures) one in
+    let still-fresh = fresh-same _ _ (at-loop .inv .same) (fresh-same _ _ (made-same _ _ {live = at-start .args .live} fit (omega (arith, few-open)) (omega (arith, at-visit .ensures .fewer (at-if1 .left), one .made-in, ready .top-in)) (at-put-tree .ensures .1)) (fresh-same _ _ (first-attempt .same) fresh)) in
+    let two = at-visit2 .ensures .came in
+    let next-attempt = while-live _ _ fit rule pos (at-loop .end) (at-loop .top) (at-loop .inv .words) (omega (arith, few-open)) (at-loop .inv .end-in) (omega arith) small-rule
+    (ok (at-loop .end) (kids (treesAt (at-loop .work) (at-loop .top)))) (λ z. let q = at-loop .inv .top-in in omega arith, refl, at-loop .inv .held) still-fresh (λ l s. reading given line left l root pos s) (at-put-use2 .ensures) two in
+    let grown : (at-visit2 .result) .end < 65534 = let e = at-if2 .left in let f = at-if3 .left in let m = two .end-most in omega arith in
+    let fewer-cells = at-visit2 .ensures .fewer grown in
+    let ready-again = ready-loop ready (omega (arith, at-visit .ensures .fewer (at-if1 .left), ready .top-in)) (at-loop .inv) in
+    turns _ _ fit visiting root rule pos (λ l s e. visit-none-left (grammarIn given) line (keepsIn given) l root pos s left e) (at-loop .inv) next-attempt (at-if4 .left) grown (omega (arith, few-open)) (omega (arith, fewer-cells, two .made-in, ready-again .top-in)) fewer-cells (at-visit2 .kept .1 .1 .0 ∙ at-put-use2 .kept .0) (at-put-tree2 .ensures .1)
 
 use-live-same-length-2 : (t : ℕ) → use-live-lts.Need-same-length-2 (use-live-claims t) (use-live-at t) use-live.Post use-live-Inv-loop use-live-μ-loop
 use-live-same-length-2 t c =
@@ -613,15 +777,39 @@ use-live-same-length-2 t c =
 use-live-returns-2 : (t : ℕ) → use-live-lts.Need-returns-2 (use-live-claims t) (use-live-at t) use-live.Post use-live-Inv-loop use-live-μ-loop
 use-live-returns-2 t c =
     let at-start = c .before .before .before .before .before .before .before .before .before .before .before .before .before .before .before .before .before .before .before .before .before .before .before .before .before .before .before .before in
-    let at-put-use = c .before .before .before .before .before .before .before .before .before .before .before .before .before .before .before .before .before .before .before .before .before .before .before .before .put-use in
     let at-visit = c .before .before .before .before .before .before .before .before .before .before .before .before .before .before .before .before .before .before .before .before .visit in
+    let at-put-use = c .before .before .before .before .before .before .before .before .before .before .before .before .before .before .before .before .before .before .before .before .before .before .before .before .put-use in
+    let at-loop = c .before .before .before .before .before .before .before .before .before .before .loop in
     let at-if1 = c .before .before .before .before .before .before .before .before .before .before .before .before .before .before .before .before .if1 in
     let at-put-tree = c .before .before .before .before .before .before .before .before .before .before .before .before .before .put-tree in
-    let at-loop = c .before .before .before .before .before .before .before .before .before .before .loop in
-    let at-put-use2 = c .before .before .before .before .before .before .before .before .put-use2 in
     let at-visit2 = c .before .before .before .before .visit2 in
+    let at-put-use2 = c .before .before .before .before .before .before .before .before .put-use2 in
     let at-if2 = c .if2 in
-    record { came = first-grown _ _ (at-start .pre .1 .0 .fit) (reading (at-start .args .given .now) (at-start .args .line .now) (at-start .args .left)) (at-start .args .root) (at-start .args .rule) (at-start .args .pos) (λ l s e. visit-none-left (grammarIn (at-start .args .given .now)) (at-start .args .line .now) (keepsIn (at-start .args .given .now)) l (at-start .args .root) (at-start .args .pos) s (at-start .args .left) e) (at-start .pre .1 .1 .0 .1 .1 .1 ∙ root-is _ _ (at-start .pre .1 .0 .fit) _ (at-start .pre .1 .1 .0 .1 .1 .0)) (at-start .pre .1 .1 .1) (while-live _ _ (at-start .pre .1 .0 .fit) (at-start .args .rule) (at-start .args .pos) 0 0 ((at-start .pre .1 .0) .words) (omega (arith, (at-start .pre .1 .1 .0 .0))) (omega arith) (omega arith) (at-start .pre .1 .1 .0 .1 .0) fail refl (at-start .pre .1 .1 .1) (λ l s. reading (at-start .args .given .now) (at-start .args .line .now) (at-start .args .left) l (at-start .args .root) (at-start .args .pos) s) (at-put-use .ensures) (at-visit .ensures .came)) (at-if1 .left) (omega (arith, (at-start .pre .1 .1 .0 .0))) (omega (arith, at-visit .ensures .fewer (at-if1 .left), (at-visit .ensures .came) .made-in, (at-start .pre .1 .0) .top-in)) (at-put-tree .ensures .1) (out-stop _ _ (at-start .pre .1 .0 .fit) (reading (at-start .args .given .now) (at-start .args .line .now) (at-start .args .left)) (at-start .args .root) (at-start .args .rule) (at-start .args .pos) (λ l s e. visit-none-left (grammarIn (at-start .args .given .now)) (at-start .args .line .now) (keepsIn (at-start .args .given .now)) l (at-start .args .root) (at-start .args .pos) s (at-start .args .left) e) (at-loop .inv) (while-live _ _ (at-start .pre .1 .0 .fit) (at-start .args .rule) (at-start .args .pos) (at-loop .end) (at-loop .top) (at-loop .inv .words) (omega (arith, (at-start .pre .1 .1 .0 .0))) (at-loop .inv .end-in) (omega arith) (at-start .pre .1 .1 .0 .1 .0) (ok (at-loop .end) (kids (treesAt (at-loop .work) (at-loop .top)))) (λ z. let q = at-loop .inv .top-in in omega arith, refl, at-loop .inv .held) (fresh-same _ _ (at-loop .inv .same) (fresh-same _ _ (made-same _ _ {live = at-start .args .live} (at-start .pre .1 .0 .fit) (omega (arith, (at-start .pre .1 .1 .0 .0))) (omega (arith, at-visit .ensures .fewer (at-if1 .left), (at-visit .ensures .came) .made-in, (at-start .pre .1 .0) .top-in)) (at-put-tree .ensures .1)) (fresh-same _ _ ((while-live _ _ (at-start .pre .1 .0 .fit) (at-start .args .rule) (at-start .args .pos) 0 0 ((at-start .pre .1 .0) .words) (omega (arith, (at-start .pre .1 .1 .0 .0))) (omega arith) (omega arith) (at-start .pre .1 .1 .0 .1 .0) fail refl (at-start .pre .1 .1 .1) (λ l s. reading (at-start .args .given .now) (at-start .args .line .now) (at-start .args .left) l (at-start .args .root) (at-start .args .pos) s) (at-put-use .ensures) (at-visit .ensures .came)) .same) (at-start .pre .1 .1 .1)))) (λ l s. reading (at-start .args .given .now) (at-start .args .line .now) (at-start .args .left) l (at-start .args .root) (at-start .args .pos) s) (at-put-use2 .ensures) (at-visit2 .ensures .came)) (at-if2 .taken)); cells = omega (arith, at-visit2 .ensures .cells, at-loop .inv .cells, at-visit .ensures .fewer (at-if1 .left)) }
+    let fit = at-start .pre .1 .0 .fit in
+    let given = at-start .args .given .now in
+    let line = at-start .args .line .now in
+    let left = at-start .args .left in
+    let visiting = reading given line left in
+    let root = at-start .args .root in
+    let rule = at-start .args .rule in
+    let pos = at-start .args .pos in
+    let known = at-start .pre .1 .1 .0 .1 .1 .0 in
+    let rooted = at-start .pre .1 .1 .0 .1 .1 .1 ∙ root-is _ _ fit _ known in
+    let fresh = at-start .pre .1 .1 .1 in
+    let ready = at-start .pre .1 .0 in
+    let few-open = at-start .pre .1 .1 .0 .0 in
+    let small-rule = at-start .pre .1 .1 .0 .1 .0 in
+    let one = at-visit .ensures .came in
+    let first-attempt = while-live _ _ fit rule pos 0 0 (ready .words) (omega (arith, few-open)) (omega arith) (omega arith) small-rule fail refl fresh (λ l s. reading given line left l root pos s) (at-put-use .ensures) one in
+    let still-fresh = fresh-same _ _ (at-loop .inv .same) (fresh-same _ _ (made-same _ _ {live = at-start .args .live} fit (omega (arith, few-open)) (omega (arith, at-visit .ensures .fewer (at-if1 .left), one .made-in, ready .top-in)) (at-put-tree .ensures .1)) (fresh-same _ _ (first-attempt .same) fresh)) in
+    let two = at-visit2 .ensures .came in
+    let next-attempt = while-live _ _ fit rule pos (at-loop .end) (at-loop .top) (at-loop .inv .words) (omega (arith, few-open)) (at-loop .inv .end-in) (omega arith) small-rule
+    (ok (at-loop .end) (kids (treesAt (at-loop .work) (at-loop .top)))) (λ z. let q = at-loop .inv .top-in in omega arith, refl, at-loop .inv .held) still-fresh (λ l s. reading given line left l root pos s) (at-put-use2 .ensures) two in
+    let ended = out-stop _ _ fit visiting root rule pos (λ l s e. visit-none-left (grammarIn given) line (keepsIn given) l root pos s left e) (at-loop .inv) next-attempt (at-if2 .taken) in
+    record {
+      came = first-grown _ _ fit visiting root rule pos (λ l s e. visit-none-left (grammarIn given) line (keepsIn given) l root pos s left e) rooted fresh first-attempt (at-if1 .left) (omega (arith, few-open)) (omega (arith, at-visit .ensures .fewer (at-if1 .left), one .made-in, ready .top-in)) (at-put-tree .ensures .1) ended;
+      cells = omega (arith, at-visit2 .ensures .cells, at-loop .inv .cells, at-visit .ensures .fewer (at-if1 .left));
+    }
 
 use-live-same-length-3 : (t : ℕ) → use-live-lts.Need-same-length-3 (use-live-claims t) (use-live-at t) use-live.Post use-live-Inv-loop use-live-μ-loop
 use-live-same-length-3 t c =
@@ -636,15 +824,39 @@ use-live-same-length-3 t c =
 use-live-returns-3 : (t : ℕ) → use-live-lts.Need-returns-3 (use-live-claims t) (use-live-at t) use-live.Post use-live-Inv-loop use-live-μ-loop
 use-live-returns-3 t c =
     let at-start = c .before .before .before .before .before .before .before .before .before .before .before .before .before .before .before .before .before .before .before .before .before .before .before .before .before .before .before .before .before .before in
-    let at-put-use = c .before .before .before .before .before .before .before .before .before .before .before .before .before .before .before .before .before .before .before .before .before .before .before .before .before .before .put-use in
     let at-visit = c .before .before .before .before .before .before .before .before .before .before .before .before .before .before .before .before .before .before .before .before .before .before .visit in
+    let at-put-use = c .before .before .before .before .before .before .before .before .before .before .before .before .before .before .before .before .before .before .before .before .before .before .before .before .before .before .put-use in
+    let at-loop = c .before .before .before .before .before .before .before .before .before .before .before .before .loop in
     let at-if1 = c .before .before .before .before .before .before .before .before .before .before .before .before .before .before .before .before .before .before .if1 in
     let at-put-tree = c .before .before .before .before .before .before .before .before .before .before .before .before .before .before .before .put-tree in
-    let at-loop = c .before .before .before .before .before .before .before .before .before .before .before .before .loop in
-    let at-put-use2 = c .before .before .before .before .before .before .before .before .before .before .put-use2 in
     let at-visit2 = c .before .before .before .before .before .before .visit2 in
+    let at-put-use2 = c .before .before .before .before .before .before .before .before .before .before .put-use2 in
     let at-if3 = c .if3 in
-    record { came = first-grown _ _ (at-start .pre .1 .0 .fit) (reading (at-start .args .given .now) (at-start .args .line .now) (at-start .args .left)) (at-start .args .root) (at-start .args .rule) (at-start .args .pos) (λ l s e. visit-none-left (grammarIn (at-start .args .given .now)) (at-start .args .line .now) (keepsIn (at-start .args .given .now)) l (at-start .args .root) (at-start .args .pos) s (at-start .args .left) e) (at-start .pre .1 .1 .0 .1 .1 .1 ∙ root-is _ _ (at-start .pre .1 .0 .fit) _ (at-start .pre .1 .1 .0 .1 .1 .0)) (at-start .pre .1 .1 .1) (while-live _ _ (at-start .pre .1 .0 .fit) (at-start .args .rule) (at-start .args .pos) 0 0 ((at-start .pre .1 .0) .words) (omega (arith, (at-start .pre .1 .1 .0 .0))) (omega arith) (omega arith) (at-start .pre .1 .1 .0 .1 .0) fail refl (at-start .pre .1 .1 .1) (λ l s. reading (at-start .args .given .now) (at-start .args .line .now) (at-start .args .left) l (at-start .args .root) (at-start .args .pos) s) (at-put-use .ensures) (at-visit .ensures .came)) (at-if1 .left) (omega (arith, (at-start .pre .1 .1 .0 .0))) (omega (arith, at-visit .ensures .fewer (at-if1 .left), (at-visit .ensures .came) .made-in, (at-start .pre .1 .0) .top-in)) (at-put-tree .ensures .1) (out-held _ _ (at-start .pre .1 .0 .fit) (reading (at-start .args .given .now) (at-start .args .line .now) (at-start .args .left)) (at-start .args .root) (at-start .args .rule) (at-start .args .pos) (λ l s e. visit-none-left (grammarIn (at-start .args .given .now)) (at-start .args .line .now) (keepsIn (at-start .args .given .now)) l (at-start .args .root) (at-start .args .pos) s (at-start .args .left) e) (at-loop .inv) (while-live _ _ (at-start .pre .1 .0 .fit) (at-start .args .rule) (at-start .args .pos) (at-loop .end) (at-loop .top) (at-loop .inv .words) (omega (arith, (at-start .pre .1 .1 .0 .0))) (at-loop .inv .end-in) (omega arith) (at-start .pre .1 .1 .0 .1 .0) (ok (at-loop .end) (kids (treesAt (at-loop .work) (at-loop .top)))) (λ z. let q = at-loop .inv .top-in in omega arith, refl, at-loop .inv .held) (fresh-same _ _ (at-loop .inv .same) (fresh-same _ _ (made-same _ _ {live = at-start .args .live} (at-start .pre .1 .0 .fit) (omega (arith, (at-start .pre .1 .1 .0 .0))) (omega (arith, at-visit .ensures .fewer (at-if1 .left), (at-visit .ensures .came) .made-in, (at-start .pre .1 .0) .top-in)) (at-put-tree .ensures .1)) (fresh-same _ _ ((while-live _ _ (at-start .pre .1 .0 .fit) (at-start .args .rule) (at-start .args .pos) 0 0 ((at-start .pre .1 .0) .words) (omega (arith, (at-start .pre .1 .1 .0 .0))) (omega arith) (omega arith) (at-start .pre .1 .1 .0 .1 .0) fail refl (at-start .pre .1 .1 .1) (λ l s. reading (at-start .args .given .now) (at-start .args .line .now) (at-start .args .left) l (at-start .args .root) (at-start .args .pos) s) (at-put-use .ensures) (at-visit .ensures .came)) .same) (at-start .pre .1 .1 .1)))) (λ l s. reading (at-start .args .given .now) (at-start .args .line .now) (at-start .args .left) l (at-start .args .root) (at-start .args .pos) s) (at-put-use2 .ensures) (at-visit2 .ensures .came)) (inl (at-if3 .taken))); cells = omega (arith, at-visit2 .ensures .cells, at-loop .inv .cells, at-visit .ensures .fewer (at-if1 .left)) }
+    let fit = at-start .pre .1 .0 .fit in
+    let given = at-start .args .given .now in
+    let line = at-start .args .line .now in
+    let left = at-start .args .left in
+    let visiting = reading given line left in
+    let root = at-start .args .root in
+    let rule = at-start .args .rule in
+    let pos = at-start .args .pos in
+    let known = at-start .pre .1 .1 .0 .1 .1 .0 in
+    let rooted = at-start .pre .1 .1 .0 .1 .1 .1 ∙ root-is _ _ fit _ known in
+    let fresh = at-start .pre .1 .1 .1 in
+    let ready = at-start .pre .1 .0 in
+    let few-open = at-start .pre .1 .1 .0 .0 in
+    let small-rule = at-start .pre .1 .1 .0 .1 .0 in
+    let one = at-visit .ensures .came in
+    let first-attempt = while-live _ _ fit rule pos 0 0 (ready .words) (omega (arith, few-open)) (omega arith) (omega arith) small-rule fail refl fresh (λ l s. reading given line left l root pos s) (at-put-use .ensures) one in
+    let still-fresh = fresh-same _ _ (at-loop .inv .same) (fresh-same _ _ (made-same _ _ {live = at-start .args .live} fit (omega (arith, few-open)) (omega (arith, at-visit .ensures .fewer (at-if1 .left), one .made-in, ready .top-in)) (at-put-tree .ensures .1)) (fresh-same _ _ (first-attempt .same) fresh)) in
+    let two = at-visit2 .ensures .came in
+    let next-attempt = while-live _ _ fit rule pos (at-loop .end) (at-loop .top) (at-loop .inv .words) (omega (arith, few-open)) (at-loop .inv .end-in) (omega arith) small-rule
+    (ok (at-loop .end) (kids (treesAt (at-loop .work) (at-loop .top)))) (λ z. let q = at-loop .inv .top-in in omega arith, refl, at-loop .inv .held) still-fresh (λ l s. reading given line left l root pos s) (at-put-use2 .ensures) two in
+    let ended = out-held _ _ fit visiting root rule pos (λ l s e. visit-none-left (grammarIn given) line (keepsIn given) l root pos s left e) (at-loop .inv) next-attempt (inl (at-if3 .taken)) in
+    record {
+      came = first-grown _ _ fit visiting root rule pos (λ l s e. visit-none-left (grammarIn given) line (keepsIn given) l root pos s left e) rooted fresh first-attempt (at-if1 .left) (omega (arith, few-open)) (omega (arith, at-visit .ensures .fewer (at-if1 .left), one .made-in, ready .top-in)) (at-put-tree .ensures .1) ended;
+      cells = omega (arith, at-visit2 .ensures .cells, at-loop .inv .cells, at-visit .ensures .fewer (at-if1 .left));
+    }
 
 use-live-same-length-4 : (t : ℕ) → use-live-lts.Need-same-length-4 (use-live-claims t) (use-live-at t) use-live.Post use-live-Inv-loop use-live-μ-loop
 use-live-same-length-4 t c =
@@ -659,15 +871,39 @@ use-live-same-length-4 t c =
 use-live-returns-4 : (t : ℕ) → use-live-lts.Need-returns-4 (use-live-claims t) (use-live-at t) use-live.Post use-live-Inv-loop use-live-μ-loop
 use-live-returns-4 t c =
     let at-start = c .before .before .before .before .before .before .before .before .before .before .before .before .before .before .before .before .before .before .before .before .before .before .before .before .before .before .before .before .before .before .before .before in
-    let at-put-use = c .before .before .before .before .before .before .before .before .before .before .before .before .before .before .before .before .before .before .before .before .before .before .before .before .before .before .before .before .put-use in
     let at-visit = c .before .before .before .before .before .before .before .before .before .before .before .before .before .before .before .before .before .before .before .before .before .before .before .before .visit in
+    let at-put-use = c .before .before .before .before .before .before .before .before .before .before .before .before .before .before .before .before .before .before .before .before .before .before .before .before .before .before .before .before .put-use in
+    let at-loop = c .before .before .before .before .before .before .before .before .before .before .before .before .before .before .loop in
     let at-if1 = c .before .before .before .before .before .before .before .before .before .before .before .before .before .before .before .before .before .before .before .before .if1 in
     let at-put-tree = c .before .before .before .before .before .before .before .before .before .before .before .before .before .before .before .before .before .put-tree in
-    let at-loop = c .before .before .before .before .before .before .before .before .before .before .before .before .before .before .loop in
-    let at-put-use2 = c .before .before .before .before .before .before .before .before .before .before .before .before .put-use2 in
     let at-visit2 = c .before .before .before .before .before .before .before .before .visit2 in
+    let at-put-use2 = c .before .before .before .before .before .before .before .before .before .before .before .before .put-use2 in
     let at-if4 = c .if4 in
-    record { came = first-grown _ _ (at-start .pre .1 .0 .fit) (reading (at-start .args .given .now) (at-start .args .line .now) (at-start .args .left)) (at-start .args .root) (at-start .args .rule) (at-start .args .pos) (λ l s e. visit-none-left (grammarIn (at-start .args .given .now)) (at-start .args .line .now) (keepsIn (at-start .args .given .now)) l (at-start .args .root) (at-start .args .pos) s (at-start .args .left) e) (at-start .pre .1 .1 .0 .1 .1 .1 ∙ root-is _ _ (at-start .pre .1 .0 .fit) _ (at-start .pre .1 .1 .0 .1 .1 .0)) (at-start .pre .1 .1 .1) (while-live _ _ (at-start .pre .1 .0 .fit) (at-start .args .rule) (at-start .args .pos) 0 0 ((at-start .pre .1 .0) .words) (omega (arith, (at-start .pre .1 .1 .0 .0))) (omega arith) (omega arith) (at-start .pre .1 .1 .0 .1 .0) fail refl (at-start .pre .1 .1 .1) (λ l s. reading (at-start .args .given .now) (at-start .args .line .now) (at-start .args .left) l (at-start .args .root) (at-start .args .pos) s) (at-put-use .ensures) (at-visit .ensures .came)) (at-if1 .left) (omega (arith, (at-start .pre .1 .1 .0 .0))) (omega (arith, at-visit .ensures .fewer (at-if1 .left), (at-visit .ensures .came) .made-in, (at-start .pre .1 .0) .top-in)) (at-put-tree .ensures .1) (out-held _ _ (at-start .pre .1 .0 .fit) (reading (at-start .args .given .now) (at-start .args .line .now) (at-start .args .left)) (at-start .args .root) (at-start .args .rule) (at-start .args .pos) (λ l s e. visit-none-left (grammarIn (at-start .args .given .now)) (at-start .args .line .now) (keepsIn (at-start .args .given .now)) l (at-start .args .root) (at-start .args .pos) s (at-start .args .left) e) (at-loop .inv) (while-live _ _ (at-start .pre .1 .0 .fit) (at-start .args .rule) (at-start .args .pos) (at-loop .end) (at-loop .top) (at-loop .inv .words) (omega (arith, (at-start .pre .1 .1 .0 .0))) (at-loop .inv .end-in) (omega arith) (at-start .pre .1 .1 .0 .1 .0) (ok (at-loop .end) (kids (treesAt (at-loop .work) (at-loop .top)))) (λ z. let q = at-loop .inv .top-in in omega arith, refl, at-loop .inv .held) (fresh-same _ _ (at-loop .inv .same) (fresh-same _ _ (made-same _ _ {live = at-start .args .live} (at-start .pre .1 .0 .fit) (omega (arith, (at-start .pre .1 .1 .0 .0))) (omega (arith, at-visit .ensures .fewer (at-if1 .left), (at-visit .ensures .came) .made-in, (at-start .pre .1 .0) .top-in)) (at-put-tree .ensures .1)) (fresh-same _ _ ((while-live _ _ (at-start .pre .1 .0 .fit) (at-start .args .rule) (at-start .args .pos) 0 0 ((at-start .pre .1 .0) .words) (omega (arith, (at-start .pre .1 .1 .0 .0))) (omega arith) (omega arith) (at-start .pre .1 .1 .0 .1 .0) fail refl (at-start .pre .1 .1 .1) (λ l s. reading (at-start .args .given .now) (at-start .args .line .now) (at-start .args .left) l (at-start .args .root) (at-start .args .pos) s) (at-put-use .ensures) (at-visit .ensures .came)) .same) (at-start .pre .1 .1 .1)))) (λ l s. reading (at-start .args .given .now) (at-start .args .line .now) (at-start .args .left) l (at-start .args .root) (at-start .args .pos) s) (at-put-use2 .ensures) (at-visit2 .ensures .came)) (inr (at-if4 .taken))); cells = omega (arith, at-visit2 .ensures .cells, at-loop .inv .cells, at-visit .ensures .fewer (at-if1 .left)) }
+    let fit = at-start .pre .1 .0 .fit in
+    let given = at-start .args .given .now in
+    let line = at-start .args .line .now in
+    let left = at-start .args .left in
+    let visiting = reading given line left in
+    let root = at-start .args .root in
+    let rule = at-start .args .rule in
+    let pos = at-start .args .pos in
+    let known = at-start .pre .1 .1 .0 .1 .1 .0 in
+    let rooted = at-start .pre .1 .1 .0 .1 .1 .1 ∙ root-is _ _ fit _ known in
+    let fresh = at-start .pre .1 .1 .1 in
+    let ready = at-start .pre .1 .0 in
+    let few-open = at-start .pre .1 .1 .0 .0 in
+    let small-rule = at-start .pre .1 .1 .0 .1 .0 in
+    let one = at-visit .ensures .came in
+    let first-attempt = while-live _ _ fit rule pos 0 0 (ready .words) (omega (arith, few-open)) (omega arith) (omega arith) small-rule fail refl fresh (λ l s. reading given line left l root pos s) (at-put-use .ensures) one in
+    let still-fresh = fresh-same _ _ (at-loop .inv .same) (fresh-same _ _ (made-same _ _ {live = at-start .args .live} fit (omega (arith, few-open)) (omega (arith, at-visit .ensures .fewer (at-if1 .left), one .made-in, ready .top-in)) (at-put-tree .ensures .1)) (fresh-same _ _ (first-attempt .same) fresh)) in
+    let two = at-visit2 .ensures .came in
+    let next-attempt = while-live _ _ fit rule pos (at-loop .end) (at-loop .top) (at-loop .inv .words) (omega (arith, few-open)) (at-loop .inv .end-in) (omega arith) small-rule
+    (ok (at-loop .end) (kids (treesAt (at-loop .work) (at-loop .top)))) (λ z. let q = at-loop .inv .top-in in omega arith, refl, at-loop .inv .held) still-fresh (λ l s. reading given line left l root pos s) (at-put-use2 .ensures) two in
+    let ended = out-held _ _ fit visiting root rule pos (λ l s e. visit-none-left (grammarIn given) line (keepsIn given) l root pos s left e) (at-loop .inv) next-attempt (inr (at-if4 .taken)) in
+    record {
+      came = first-grown _ _ fit visiting root rule pos (λ l s e. visit-none-left (grammarIn given) line (keepsIn given) l root pos s left e) rooted fresh first-attempt (at-if1 .left) (omega (arith, few-open)) (omega (arith, at-visit .ensures .fewer (at-if1 .left), one .made-in, ready .top-in)) (at-put-tree .ensures .1) ended;
+      cells = omega (arith, at-visit2 .ensures .cells, at-loop .inv .cells, at-visit .ensures .fewer (at-if1 .left));
+    }
 
 use-rule-add-at : (t : ℕ) → use-rule-lts.Need-add-at (use-rule-claims t) (use-rule-at t) use-rule.Post
 use-rule-add-at t c = search needs
@@ -684,7 +920,9 @@ use-rule-element-copy-out-if1 t c = search needs
 use-rule-use-free-requires : (t : ℕ) → use-rule-lts.Need-use-free-requires (use-rule-claims t) (use-rule-at t) use-rule.Post
 use-rule-use-free-requires t c κs =
     let at-start = c .before .before .before .before .before .before in
-    ((omega (arith, at-start .pre .0)), ((at-start .pre .1 .0), (at-start .pre .1 .1 .0, omega (arith, (at-start .pre .1 .0 .fit) .rules, at-start .pre .1 .1 .1))))
+    let ready = at-start .pre .1 .0 in
+    let fit = at-start .pre .1 .0 .fit in
+    ((omega (arith, at-start .pre .0)), (ready, (at-start .pre .1 .1 .0, omega (arith, fit .rules, at-start .pre .1 .1 .1))))
 
 use-rule-same-length : (t : ℕ) → use-rule-lts.Need-same-length (use-rule-claims t) (use-rule-at t) use-rule.Post
 use-rule-same-length t c = search needs
@@ -694,7 +932,11 @@ use-rule-returns t c =
     let at-start = c .before .before .before .before .before .before .before .before .before in
     let at-if1 = c .before .before .before .before .if1 in
     let at-use-free = c .before .before .use-free in
-    record { came = uses-free _ _ (at-start .pre .1 .0 .fit) _ _ _ (keeps-yes _ (at-if1 .taken)) _ (at-start .pre .1 .1 .1) refl (at-use-free .ensures .came); cells = at-use-free .ensures .cells }
+    let fit = at-start .pre .1 .0 .fit in
+    record {
+      came = uses-free _ _ fit _ _ _ (keeps-yes _ (at-if1 .taken)) _ (at-start .pre .1 .1 .1) refl (at-use-free .ensures .came);
+      cells = at-use-free .ensures .cells;
+    }
 
 use-rule-mul-find-use : (t : ℕ) → use-rule-lts.Need-mul-find-use (use-rule-claims t) (use-rule-at t) use-rule.Post
 use-rule-mul-find-use t c = search needs
@@ -733,7 +975,16 @@ use-rule-returns-2 t c =
     let at-find-use = c .before .before .before .find-use in
     let at-if2 = c .before .before .if2 in
     let at-if3 = c .if3 in
-    record { came = uses-grows _ _ (at-start .pre .1 .0 .fit) _ _ _ (keeps-no _ (at-if1 .left)) (held-fail _ _ (at-start .pre .1 .0 .fit) (reading (at-start .args .given .now) (at-start .args .line .now) (at-start .args .left)) _ _ (at-find-use .result - 1) ((at-start .pre .1 .0) .words) ((at-start .pre .1 .0) .made-in) (omega (arith, (at-start .pre .1 .0 .fit) .rules, at-start .pre .1 .1 .1)) (omega (arith, at-if2 .taken, at-find-use .ensures .within)) (at-find-use .ensures .is (omega (arith, at-if2 .taken))) (at-if3 .taken)); cells = omega arith }
+    let fit = at-start .pre .1 .0 .fit in
+    let given = at-start .args .given .now in
+    let line = at-start .args .line .now in
+    let left = at-start .args .left in
+    let visiting = reading given line left in
+    let ready = at-start .pre .1 .0 in
+    record {
+      came = uses-grows _ _ fit _ _ _ (keeps-no _ (at-if1 .left)) (held-fail _ _ fit visiting _ _ (at-find-use .result - 1) (ready .words) (ready .made-in) (omega (arith, fit .rules, at-start .pre .1 .1 .1)) (omega (arith, at-if2 .taken, at-find-use .ensures .within)) (at-find-use .ensures .is (omega (arith, at-if2 .taken))) (at-if3 .taken));
+      cells = omega arith;
+    }
 
 use-rule-add-end : (t : ℕ) → use-rule-lts.Need-add-end (use-rule-claims t) (use-rule-at t) use-rule.Post
 use-rule-add-end t c = search needs
@@ -754,14 +1005,25 @@ use-rule-returns-3 t c =
     let at-find-use = c .before .before .before .before .find-use in
     let at-if2 = c .before .before .before .if2 in
     let at-if3 = c .before .if3 in
-    record { came = uses-grows _ _ (at-start .pre .1 .0 .fit) _ _ _ (keeps-no _ (at-if1 .left)) (held-match _ _ (at-start .pre .1 .0 .fit) (reading (at-start .args .given .now) (at-start .args .line .now) (at-start .args .left)) _ _ (at-find-use .result - 1) ((at-start .pre .1 .0) .words) ((at-start .pre .1 .0) .made-in) (omega (arith, (at-start .pre .1 .0 .fit) .rules, at-start .pre .1 .1 .1)) (omega (arith, at-if2 .taken, at-find-use .ensures .within)) (at-find-use .ensures .is (omega (arith, at-if2 .taken))) (at-if3 .left)); cells = omega arith }
+    let fit = at-start .pre .1 .0 .fit in
+    let given = at-start .args .given .now in
+    let line = at-start .args .line .now in
+    let left = at-start .args .left in
+    let visiting = reading given line left in
+    let ready = at-start .pre .1 .0 in
+    record {
+      came = uses-grows _ _ fit _ _ _ (keeps-no _ (at-if1 .left)) (held-match _ _ fit visiting _ _ (at-find-use .result - 1) (ready .words) (ready .made-in) (omega (arith, fit .rules, at-start .pre .1 .1 .1)) (omega (arith, at-if2 .taken, at-find-use .ensures .within)) (at-find-use .ensures .is (omega (arith, at-if2 .taken))) (at-if3 .left));
+      cells = omega arith;
+    }
 
 use-rule-use-live-requires : (t : ℕ) → use-rule-lts.Need-use-live-requires (use-rule-claims t) (use-rule-at t) use-rule.Post
 use-rule-use-live-requires t c κs =
     let at-start = c .before .before .before .before .before .before .before .before .before in
     let at-find-use = c .before .before .find-use in
     let at-if2 = c .before .if2 in
-    ((omega (arith, at-start .pre .0)), ((at-start .pre .1 .0), ((at-start .pre .1 .1 .0, ((omega (arith, (at-start .pre .1 .0 .fit) .rules, at-start .pre .1 .1 .1)), (at-start .pre .1 .1 .1, refl))), at-find-use .ensures .none (at-if2 .left))))
+    let ready = at-start .pre .1 .0 in
+    let fit = at-start .pre .1 .0 .fit in
+    ((omega (arith, at-start .pre .0)), (ready, ((at-start .pre .1 .1 .0, ((omega (arith, fit .rules, at-start .pre .1 .1 .1)), (at-start .pre .1 .1 .1, refl))), at-find-use .ensures .none (at-if2 .left))))
 
 use-rule-same-length-4 : (t : ℕ) → use-rule-lts.Need-same-length-4 (use-rule-claims t) (use-rule-at t) use-rule.Post
 use-rule-same-length-4 t c = search needs
@@ -771,7 +1033,11 @@ use-rule-returns-4 t c =
     let at-start = c .before .before .before .before .before .before .before .before .before .before .before .before in
     let at-if1 = c .before .before .before .before .before .before .before .if1 in
     let at-use-live = c .before .before .use-live in
-    record { came = uses-grows _ _ (at-start .pre .1 .0 .fit) _ _ _ (keeps-no _ (at-if1 .left)) (at-use-live .ensures .came); cells = at-use-live .ensures .cells }
+    let fit = at-start .pre .1 .0 .fit in
+    record {
+      came = uses-grows _ _ fit _ _ _ (keeps-no _ (at-if1 .left)) (at-use-live .ensures .came);
+      cells = at-use-live .ensures .cells;
+    }
 
 visit-element-copy-out-if1 : (t : ℕ) → visit-lts.Need-element-copy-out-if1 (visit-claims t) (visit-at t) visit.Post
 visit-element-copy-out-if1 t c = search needs
@@ -786,7 +1052,13 @@ visit-returns : (t : ℕ) → visit-lts.Need-returns (visit-claims t) (visit-at 
 visit-returns t c =
     let at-start = c .before .before .before .before in
     let at-if1 = c .if1 in
-    record { came = enter-effort _ _ (at-start .pre .1 .fit) _ _ _ ((at-start .pre .1) .words) ((at-start .pre .1) .made-in) ((at-start .pre .1) .pos-in) (at-if1 .taken); cells = omega arith; fewer = λ z. absurd (omega arith) }
+    let fit = at-start .pre .1 .fit in
+    let ready = at-start .pre .1 in
+    record {
+      came = enter-effort _ _ fit _ _ _ (ready .words) (ready .made-in) (ready .pos-in) (at-if1 .taken);
+      cells = omega arith;
+      fewer = λ z. absurd (omega arith);
+    }
 
 visit-mul-t18 : (t : ℕ) → visit-lts.Need-mul-t18 (visit-claims t) (visit-at t) visit.Post
 visit-mul-t18 t c = search needs
@@ -799,7 +1071,13 @@ visit-returns-2 t c =
     let at-start = c .before .before .before .before .before in
     let at-if1 = c .before .if1 in
     let at-if2 = c .if2 in
-    record { came = enter-deep _ _ (at-start .pre .1 .fit) _ _ _ ((at-start .pre .1) .words) ((at-start .pre .1) .made-in) ((at-start .pre .1) .pos-in) (at-if1 .left) (at-if2 .taken); cells = omega arith; fewer = λ z. absurd (omega arith) }
+    let fit = at-start .pre .1 .fit in
+    let ready = at-start .pre .1 in
+    record {
+      came = enter-deep _ _ fit _ _ _ (ready .words) (ready .made-in) (ready .pos-in) (at-if1 .left) (at-if2 .taken);
+      cells = omega arith;
+      fewer = λ z. absurd (omega arith);
+    }
 
 visit-element-copy-out-if3 : (t : ℕ) → visit-lts.Need-element-copy-out-if3 (visit-claims t) (visit-at t) visit.Post
 visit-element-copy-out-if3 t c = search needs
@@ -816,7 +1094,8 @@ visit-visit-kept-requires t c κs =
     let at-if2 = c .before .before .before .if2 in
     let at-if1 = c .before .before .before .before .if1 in
     let at-if3 = c .before .if3 in
-    ((omega (arith, at-start .pre .0, at-if2 .left)), (ready-open _ (at-start .pre .1) (at-if1 .left) (omega (arith, at-if2 .left)), (omega (arith, at-if2 .left, (at-start .pre .1) .open-in), keeps-yes _ (at-if3 .taken))))
+    let ready = at-start .pre .1 in
+    ((omega (arith, at-start .pre .0, at-if2 .left)), (ready-open _ ready (at-if1 .left) (omega (arith, at-if2 .left)), (omega (arith, at-if2 .left, ready .open-in), keeps-yes _ (at-if3 .taken))))
 
 visit-same-length : (t : ℕ) → visit-lts.Need-same-length (visit-claims t) (visit-at t) visit.Post
 visit-same-length t c = search needs
@@ -827,7 +1106,12 @@ visit-returns-3 t c =
     let at-if2 = c .before .before .before .before .before .before .if2 in
     let at-if1 = c .before .before .before .before .before .before .before .if1 in
     let at-visit-kept = c .before .before .visit-kept in
-    record { came = enter-open _ _ (at-start .pre .1 .fit) _ _ _ _ (omega (arith, at-if2 .left)) (at-if1 .left) (at-visit-kept .ensures .came); cells = omega (arith, at-visit-kept .ensures .cells); fewer = λ z. omega (arith, at-visit-kept .ensures .cells) }
+    let fit = at-start .pre .1 .fit in
+    record {
+      came = enter-open _ _ fit _ _ _ _ (omega (arith, at-if2 .left)) (at-if1 .left) (at-visit-kept .ensures .came);
+      cells = omega (arith, at-visit-kept .ensures .cells);
+      fewer = λ z. omega (arith, at-visit-kept .ensures .cells);
+    }
 
 visit-mul-word : (t : ℕ) → visit-lts.Need-mul-word (visit-claims t) (visit-at t) visit.Post
 visit-mul-word t c = search needs
@@ -847,7 +1131,9 @@ visit-b-in-requires t c κs = search needs
 visit-range-end-requires : (t : ℕ) → visit-lts.Need-range-end-requires (visit-claims t) (visit-at t) visit.Post
 visit-range-end-requires t c κs =
     let at-start = c .before .before .before .before .before .before .before .before .before .before .before .before in
-    ((at-start .pre .1) .pos-in, (at-start .pre .1 .fit) .short)
+    let ready = at-start .pre .1 in
+    let fit = at-start .pre .1 .fit in
+    (ready .pos-in, fit .short)
 
 visit-add-t32 : (t : ℕ) → visit-lts.Need-add-t32 (visit-claims t) (visit-at t) visit.Post
 visit-add-t32 t c = search needs
@@ -863,7 +1149,16 @@ visit-returns-4 t c =
     let at-a-in = c .before .before .a-in in
     let at-b-in = c .before .b-in in
     let at-range-end = c .range-end in
-    record { came = enter-open _ _ (at-start .pre .1 .fit) _ _ _ _ (omega (arith, at-if2 .left)) (at-if1 .left) (visited-plain _ _ (at-start .pre .1 .fit) (reading (at-start .args .given .now) (at-start .args .line .now) (at-start .args .left - 1)) _ _ ((at-start .pre .1) .node-in) ((at-start .pre .1) .pos-in) (keeps-no _ (at-if3 .left)) (apply-range _ _ (at-start .pre .1 .fit) _ _ _ ((at-start .pre .1) .node-in) ((at-start .pre .1) .words) (omega (arith, at-if1 .left)) (sym (at-kind-in .ensures) ∙ at-if4 .taken) _ _ _ (at-a-in .ensures .0) (at-b-in .ensures .0) (at-range-end .ensures))); cells = omega arith; fewer = λ z. omega arith }
+    let fit = at-start .pre .1 .fit in
+    let given = at-start .args .given .now in
+    let line = at-start .args .line .now in
+    let visiting = reading given line (at-start .args .left - 1) in
+    let ready = at-start .pre .1 in
+    record {
+      came = enter-open _ _ fit _ _ _ _ (omega (arith, at-if2 .left)) (at-if1 .left) (visited-plain _ _ fit visiting _ _ (ready .node-in) (ready .pos-in) (keeps-no _ (at-if3 .left)) (apply-range _ _ fit _ _ _ (ready .node-in) (ready .words) (omega (arith, at-if1 .left)) (sym (at-kind-in .ensures) ∙ at-if4 .taken) _ _ _ (at-a-in .ensures .0) (at-b-in .ensures .0) (at-range-end .ensures)));
+      cells = omega arith;
+      fewer = λ z. omega arith;
+    }
 
 visit-sub-apply : (t : ℕ) → visit-lts.Need-sub-apply (visit-claims t) (visit-at t) visit.Post
 visit-sub-apply t c = search needs
@@ -876,7 +1171,8 @@ visit-apply-requires t c κs =
     let at-start = c .before .before .before .before .before .before .before .before .before .before .before in
     let at-if2 = c .before .before .before .before .before .before .if2 in
     let at-if1 = c .before .before .before .before .before .before .before .if1 in
-    ((omega (arith, at-start .pre .0, at-if2 .left)), (ready-open _ (at-start .pre .1) (at-if1 .left) (omega (arith, at-if2 .left)), omega (arith, at-if2 .left, (at-start .pre .1) .open-in)))
+    let ready = at-start .pre .1 in
+    ((omega (arith, at-start .pre .0, at-if2 .left)), (ready-open _ ready (at-if1 .left) (omega (arith, at-if2 .left)), omega (arith, at-if2 .left, ready .open-in)))
 
 visit-same-length-2 : (t : ℕ) → visit-lts.Need-same-length-2 (visit-claims t) (visit-at t) visit.Post
 visit-same-length-2 t c = search needs
@@ -888,12 +1184,22 @@ visit-returns-5 t c =
     let at-if1 = c .before .before .before .before .before .before .before .before .before .before .if1 in
     let at-if3 = c .before .before .before .before .before .before .before .if3 in
     let at-apply = c .before .before .apply in
-    record { came = enter-open _ _ (at-start .pre .1 .fit) _ _ _ _ (omega (arith, at-if2 .left)) (at-if1 .left) (visited-plain _ _ (at-start .pre .1 .fit) (reading (at-start .args .given .now) (at-start .args .line .now) (at-start .args .left - 1)) _ _ ((at-start .pre .1) .node-in) ((at-start .pre .1) .pos-in) (keeps-no _ (at-if3 .left)) (at-apply .ensures .came)); cells = omega (arith, at-apply .ensures .cells); fewer = λ z. omega (arith, at-apply .ensures .cells) }
+    let fit = at-start .pre .1 .fit in
+    let given = at-start .args .given .now in
+    let line = at-start .args .line .now in
+    let visiting = reading given line (at-start .args .left - 1) in
+    let ready = at-start .pre .1 in
+    record {
+      came = enter-open _ _ fit _ _ _ _ (omega (arith, at-if2 .left)) (at-if1 .left) (visited-plain _ _ fit visiting _ _ (ready .node-in) (ready .pos-in) (keeps-no _ (at-if3 .left)) (at-apply .ensures .came));
+      cells = omega (arith, at-apply .ensures .cells);
+      fewer = λ z. omega (arith, at-apply .ensures .cells);
+    }
 
 visit-choice-visit-requires : (t : ℕ) → visit-choice-lts.Need-visit-requires (visit-choice-claims t) (visit-choice-at t) visit-choice.Post
 visit-choice-visit-requires t c κs =
     let at-start = c .before .before .before in
-    ((omega (arith, at-start .pre .0)), (at-start .pre .1 .0))
+    let ready = at-start .pre .1 .0 in
+    ((omega (arith, at-start .pre .0)), ready)
 
 visit-choice-same-length : (t : ℕ) → visit-choice-lts.Need-same-length (visit-below t, visit.Post) (visit-choice-at t) visit-choice.Post
 visit-choice-same-length t c = search needs
@@ -903,13 +1209,24 @@ visit-choice-returns t c =
     let at-start = c .before .before .before .before .before .before .before .before in
     let at-visit = c .before .before .before .before .visit in
     let at-if1 = c .if1 in
-    record { came = choice-first _ _ (at-start .pre .1 .0 .fit) (reading (at-start .args .given .now) (at-start .args .line .now) (at-start .args .left)) _ _ (at-visit .ensures .came) _ (at-if1 .taken); cells = at-visit .ensures .cells }
+    let fit = at-start .pre .1 .0 .fit in
+    let given = at-start .args .given .now in
+    let line = at-start .args .line .now in
+    let left = at-start .args .left in
+    let visiting = reading given line left in
+    let one = at-visit .ensures .came in
+    record {
+      came = choice-first _ _ fit visiting _ _ one _ (at-if1 .taken);
+      cells = at-visit .ensures .cells;
+    }
 
 visit-choice-visit-requires-2 : (t : ℕ) → visit-choice-lts.Need-visit-requires-2 (visit-choice-claims t) (visit-choice-at t) visit-choice.Post
 visit-choice-visit-requires-2 t c κs =
     let at-start = c .before .before .before .before .before .before .before .before .before in
     let at-visit = c .before .before .before .before .before .visit in
-    ((omega (arith, at-start .pre .0)), ready-next _ _ (at-start .pre .1 .0) (at-visit .ensures .came) (at-visit .ensures .cells) (at-start .pre .1 .1 .1) ((at-start .pre .1 .0) .pos-in))
+    let ready = at-start .pre .1 .0 in
+    let one = at-visit .ensures .came in
+    ((omega (arith, at-start .pre .0)), ready-next _ _ ready one (at-visit .ensures .cells) (at-start .pre .1 .1 .1) (ready .pos-in))
 
 visit-choice-same-length-2 : (t : ℕ) → visit-choice-lts.Need-same-length-2 (visit-choice-claims t) (visit-choice-at t) visit-choice.Post
 visit-choice-same-length-2 t c = search needs
@@ -918,48 +1235,89 @@ visit-choice-returns-2 : (t : ℕ) → visit-choice-lts.Need-returns-2 (visit-be
 visit-choice-returns-2 t c =
     let at-start = c .before .before .before .before .before .before .before .before .before .before .before .before in
     let at-visit = c .before .before .before .before .before .before .before .before .visit in
-    let at-if1 = c .before .before .before .before .if1 in
     let at-visit2 = c .before .before .visit2 in
-    record { came = choice-second _ _ (at-start .pre .1 .0 .fit) (reading (at-start .args .given .now) (at-start .args .line .now) (at-start .args .left)) _ _ (at-visit .ensures .came) _ (at-if1 .left) (at-visit2 .ensures .came); cells = omega (arith, at-visit .ensures .cells, at-visit2 .ensures .cells) }
+    let at-if1 = c .before .before .before .before .if1 in
+    let fit = at-start .pre .1 .0 .fit in
+    let given = at-start .args .given .now in
+    let line = at-start .args .line .now in
+    let left = at-start .args .left in
+    let visiting = reading given line left in
+    let one = at-visit .ensures .came in
+    let two = at-visit2 .ensures .came in
+    record {
+      came = choice-second _ _ fit visiting _ _ one _ (at-if1 .left) two;
+      cells = omega (arith, at-visit .ensures .cells, at-visit2 .ensures .cells);
+    }
 
 visit-kept-kept-at-requires : (t : ℕ) → visit-kept-lts.Need-kept-at-requires (visit-kept-claims t) (visit-kept-at t) visit-kept.Post
 visit-kept-kept-at-requires t c κs =
     let at-start = c .before .before in
-    ((at-start .pre .1 .0 .fit), ((at-start .pre .1 .0) .node-in, (at-start .pre .1 .0) .pos-in))
+    let fit = at-start .pre .1 .0 .fit in
+    let ready = at-start .pre .1 .0 in
+    (fit, (ready .node-in, ready .pos-in))
 
 visit-kept-mul-word : (t : ℕ) → visit-kept-lts.Need-mul-word (visit-kept-claims t) (visit-kept-at t) visit-kept.Post
 visit-kept-mul-word t c =
-    let at-kept-at = c .kept-at in
     let at-start = c .before .before .before in
-    omega (arith, at-kept-at .ensures, pair-in (at-start .args .given .now) (at-start .args .line .now) (at-start .args .node) (at-start .args .pos) ((at-start .pre .1 .0) .node-in) ((at-start .pre .1 .0) .pos-in), (at-start .pre .1 .0 .fit) .base, (at-start .pre .1 .0) .words .room)
+    let at-kept-at = c .kept-at in
+    let given = at-start .args .given .now in
+    let line = at-start .args .line .now in
+    let pos = at-start .args .pos in
+    let ready = at-start .pre .1 .0 in
+    let fit = at-start .pre .1 .0 .fit in
+    omega (arith, at-kept-at .ensures, pair-in given line (at-start .args .node) pos (ready .node-in) (ready .pos-in), fit .base, ready .words .room)
 
 visit-kept-slice-read-word : (t : ℕ) → visit-kept-lts.Need-slice-read-word (visit-kept-claims t) (visit-kept-at t) visit-kept.Post
 visit-kept-slice-read-word t c =
-    let at-kept-at = c .before .kept-at in
     let at-start = c .before .before .before .before in
-    omega (arith, at-kept-at .ensures, pair-in (at-start .args .given .now) (at-start .args .line .now) (at-start .args .node) (at-start .args .pos) ((at-start .pre .1 .0) .node-in) ((at-start .pre .1 .0) .pos-in), (at-start .pre .1 .0 .fit) .base, (at-start .pre .1 .0) .words .room)
+    let at-kept-at = c .before .kept-at in
+    let given = at-start .args .given .now in
+    let line = at-start .args .line .now in
+    let pos = at-start .args .pos in
+    let ready = at-start .pre .1 .0 in
+    let fit = at-start .pre .1 .0 .fit in
+    omega (arith, at-kept-at .ensures, pair-in given line (at-start .args .node) pos (ready .node-in) (ready .pos-in), fit .base, ready .words .room)
 
 visit-kept-returns : (t : ℕ) → visit-kept-lts.Need-returns (visit-kept-claims t) (visit-kept-at t) visit-kept.Post
 visit-kept-returns t c =
     let at-start = c .before .before .before .before .before in
     let at-kept-at = c .before .before .kept-at in
     let at-if1 = c .if1 in
-    record { came = fail-at _ _ (at-start .pre .1 .0 .fit) (reading (at-start .args .given .now) (at-start .args .line .now) (at-start .args .left)) _ _ ((at-start .pre .1 .0) .node-in) ((at-start .pre .1 .0) .pos-in) _ (at-kept-at .ensures) ((at-start .pre .1 .0) .words) (at-start .pre .1 .1 .1) ((at-start .pre .1 .0) .made-in) (at-if1 .taken); cells = omega arith }
+    let fit = at-start .pre .1 .0 .fit in
+    let given = at-start .args .given .now in
+    let line = at-start .args .line .now in
+    let left = at-start .args .left in
+    let visiting = reading given line left in
+    let ready = at-start .pre .1 .0 in
+    record {
+      came = fail-at _ _ fit visiting _ _ (ready .node-in) (ready .pos-in) _ (at-kept-at .ensures) (ready .words) (at-start .pre .1 .1 .1) (ready .made-in) (at-if1 .taken);
+      cells = omega arith;
+    }
 
 visit-kept-add-list : (t : ℕ) → visit-kept-lts.Need-add-list (visit-kept-claims t) (visit-kept-at t) visit-kept.Post
 visit-kept-add-list t c = search needs
 
 visit-kept-mul-list : (t : ℕ) → visit-kept-lts.Need-mul-list (visit-kept-claims t) (visit-kept-at t) visit-kept.Post
 visit-kept-mul-list t c =
-    let at-kept-at = c .before .before .before .kept-at in
     let at-start = c .before .before .before .before .before .before in
-    omega (arith, at-kept-at .ensures, pair-in (at-start .args .given .now) (at-start .args .line .now) (at-start .args .node) (at-start .args .pos) ((at-start .pre .1 .0) .node-in) ((at-start .pre .1 .0) .pos-in), (at-start .pre .1 .0 .fit) .base, (at-start .pre .1 .0) .words .room)
+    let at-kept-at = c .before .before .before .kept-at in
+    let given = at-start .args .given .now in
+    let line = at-start .args .line .now in
+    let pos = at-start .args .pos in
+    let ready = at-start .pre .1 .0 in
+    let fit = at-start .pre .1 .0 .fit in
+    omega (arith, at-kept-at .ensures, pair-in given line (at-start .args .node) pos (ready .node-in) (ready .pos-in), fit .base, ready .words .room)
 
 visit-kept-slice-read-list : (t : ℕ) → visit-kept-lts.Need-slice-read-list (visit-kept-claims t) (visit-kept-at t) visit-kept.Post
 visit-kept-slice-read-list t c =
-    let at-kept-at = c .before .before .before .before .kept-at in
     let at-start = c .before .before .before .before .before .before .before in
-    omega (arith, at-kept-at .ensures, pair-in (at-start .args .given .now) (at-start .args .line .now) (at-start .args .node) (at-start .args .pos) ((at-start .pre .1 .0) .node-in) ((at-start .pre .1 .0) .pos-in), (at-start .pre .1 .0 .fit) .base, (at-start .pre .1 .0) .words .room)
+    let at-kept-at = c .before .before .before .before .kept-at in
+    let given = at-start .args .given .now in
+    let line = at-start .args .line .now in
+    let pos = at-start .args .pos in
+    let ready = at-start .pre .1 .0 in
+    let fit = at-start .pre .1 .0 .fit in
+    omega (arith, at-kept-at .ensures, pair-in given line (at-start .args .node) pos (ready .node-in) (ready .pos-in), fit .base, ready .words .room)
 
 visit-kept-sub-t21 : (t : ℕ) → visit-kept-lts.Need-sub-t21 (visit-kept-claims t) (visit-kept-at t) visit-kept.Post
 visit-kept-sub-t21 t c = search needs
@@ -969,12 +1327,22 @@ visit-kept-returns-2 t c =
     let at-start = c .before .before .before .before .before .before .before in
     let at-kept-at = c .before .before .before .before .kept-at in
     let at-if2 = c .before .if2 in
-    record { came = match-at _ _ (at-start .pre .1 .0 .fit) (reading (at-start .args .given .now) (at-start .args .line .now) (at-start .args .left)) _ _ ((at-start .pre .1 .0) .node-in) ((at-start .pre .1 .0) .pos-in) _ (at-kept-at .ensures) ((at-start .pre .1 .0) .words) (at-start .pre .1 .1 .1) ((at-start .pre .1 .0) .made-in) (at-if2 .taken); cells = omega arith }
+    let fit = at-start .pre .1 .0 .fit in
+    let given = at-start .args .given .now in
+    let line = at-start .args .line .now in
+    let left = at-start .args .left in
+    let visiting = reading given line left in
+    let ready = at-start .pre .1 .0 in
+    record {
+      came = match-at _ _ fit visiting _ _ (ready .node-in) (ready .pos-in) _ (at-kept-at .ensures) (ready .words) (at-start .pre .1 .1 .1) (ready .made-in) (at-if2 .taken);
+      cells = omega arith;
+    }
 
 visit-kept-apply-requires : (t : ℕ) → visit-kept-lts.Need-apply-requires (visit-kept-claims t) (visit-kept-at t) visit-kept.Post
 visit-kept-apply-requires t c κs =
     let at-start = c .before .before .before .before .before .before .before in
-    ((omega (arith, at-start .pre .0)), ((at-start .pre .1 .0), at-start .pre .1 .1 .0))
+    let ready = at-start .pre .1 .0 in
+    ((omega (arith, at-start .pre .0)), (ready, at-start .pre .1 .1 .0))
 
 visit-kept-same-length : (t : ℕ) → visit-kept-lts.Need-same-length (visit-kept-claims t) (visit-kept-at t) visit-kept.Post
 visit-kept-same-length t c = search needs
@@ -987,14 +1355,28 @@ visit-kept-returns-3 t c =
     let at-if2 = c .before .before .before .before .before .before .if2 in
     let at-apply = c .before .before .before .before .apply in
     let at-if3 = c .if3 in
-    record { came = stop-at _ _ (at-start .pre .1 .0 .fit) (reading (at-start .args .given .now) (at-start .args .line .now) (at-start .args .left)) _ _ ((at-start .pre .1 .0) .node-in) ((at-start .pre .1 .0) .pos-in) _ (at-kept-at .ensures) ((at-start .pre .1 .0) .words) (at-start .pre .1 .1 .1) ((at-start .pre .1 .0) .made-in) (omega (arith, at-if1 .left, at-if2 .left)) (at-apply .ensures .came) (at-if3 .taken); cells = at-apply .ensures .cells }
+    let fit = at-start .pre .1 .0 .fit in
+    let given = at-start .args .given .now in
+    let line = at-start .args .line .now in
+    let left = at-start .args .left in
+    let visiting = reading given line left in
+    let ready = at-start .pre .1 .0 in
+    record {
+      came = stop-at _ _ fit visiting _ _ (ready .node-in) (ready .pos-in) _ (at-kept-at .ensures) (ready .words) (at-start .pre .1 .1 .1) (ready .made-in) (omega (arith, at-if1 .left, at-if2 .left)) (at-apply .ensures .came) (at-if3 .taken);
+      cells = at-apply .ensures .cells;
+    }
 
 visit-kept-put-kept-requires : (t : ℕ) → visit-kept-lts.Need-put-kept-requires (visit-kept-claims t) (visit-kept-at t) visit-kept.Post
 visit-kept-put-kept-requires t c κs =
-    let at-kept-at = c .before .before .before .before .before .before .before .before .before .before .before .before .kept-at in
     let at-start = c .before .before .before .before .before .before .before .before .before .before .before .before .before .before .before in
+    let at-kept-at = c .before .before .before .before .before .before .before .before .before .before .before .before .kept-at in
     let at-apply = c .before .before .before .before .before .before .before .apply in
-    omega (arith, at-kept-at .ensures, pair-in (at-start .args .given .now) (at-start .args .line .now) (at-start .args .node) (at-start .args .pos) ((at-start .pre .1 .0) .node-in) ((at-start .pre .1 .0) .pos-in), (at-start .pre .1 .0 .fit) .base, at-apply .ensures .came .words .room)
+    let given = at-start .args .given .now in
+    let line = at-start .args .line .now in
+    let pos = at-start .args .pos in
+    let ready = at-start .pre .1 .0 in
+    let fit = at-start .pre .1 .0 .fit in
+    omega (arith, at-kept-at .ensures, pair-in given line (at-start .args .node) pos (ready .node-in) (ready .pos-in), fit .base, at-apply .ensures .came .words .room)
 
 visit-kept-same-length-2 : (t : ℕ) → visit-kept-lts.Need-same-length-2 (visit-kept-claims t) (visit-kept-at t) visit-kept.Post
 visit-kept-same-length-2 t c = search needs
@@ -1008,22 +1390,38 @@ visit-kept-returns-4 t c =
     let at-apply = c .before .before .before .before .before .before .before .before .before .before .apply in
     let at-put-kept = c .before .before .put-kept in
     let at-if4 = c .before .before .before .before .if4 in
-    record { came = keep-fail-at _ _ (at-start .pre .1 .0 .fit) (reading (at-start .args .given .now) (at-start .args .line .now) (at-start .args .left)) _ _ ((at-start .pre .1 .0) .node-in) ((at-start .pre .1 .0) .pos-in) _ (at-kept-at .ensures) ((at-start .pre .1 .0) .words) (at-start .pre .1 .1 .1) ((at-start .pre .1 .0) .made-in) (omega (arith, at-if1 .left, at-if2 .left)) (at-apply .ensures .came) (omega (arith, at-start .pre .1 .1 .0)) (omega (arith, at-apply .ensures .cells, at-apply .ensures .came .made-in, (at-start .pre .1 .0) .top-in)) (at-put-kept .ensures) (at-if4 .taken); cells = at-apply .ensures .cells }
+    let fit = at-start .pre .1 .0 .fit in
+    let given = at-start .args .given .now in
+    let line = at-start .args .line .now in
+    let left = at-start .args .left in
+    let visiting = reading given line left in
+    let ready = at-start .pre .1 .0 in
+    record {
+      came = keep-fail-at _ _ fit visiting _ _ (ready .node-in) (ready .pos-in) _ (at-kept-at .ensures) (ready .words) (at-start .pre .1 .1 .1) (ready .made-in)
+          (omega (arith, at-if1 .left, at-if2 .left)) (at-apply .ensures .came) (omega (arith, at-start .pre .1 .1 .0)) (omega (arith, at-apply .ensures .cells, at-apply .ensures .came .made-in, ready .top-in)) (at-put-kept .ensures) (at-if4 .taken);
+      cells = at-apply .ensures .cells;
+    }
 
 visit-kept-add-put-kept : (t : ℕ) → visit-kept-lts.Need-add-put-kept (visit-kept-claims t) (visit-kept-at t) visit-kept.Post
 visit-kept-add-put-kept t c =
+    let at-start = c .before .before .before .before .before .before .before .before .before .before .before .before .before .before .before .before in
     let at-apply = c .before .before .before .before .before .before .before .before .apply in
     let at-if3 = c .before .before .before .before .if3 in
     let at-if4 = c .before .before .if4 in
-    let at-start = c .before .before .before .before .before .before .before .before .before .before .before .before .before .before .before .before in
-    omega (arith, at-apply .ensures .came .end-in (let e = at-if3 .left in let f = at-if4 .left in let m = at-apply .ensures .came .end-most in omega arith), (at-start .pre .1 .0 .fit) .short)
+    let fit = at-start .pre .1 .0 .fit in
+    omega (arith, at-apply .ensures .came .end-in (let e = at-if3 .left in let f = at-if4 .left in let m = at-apply .ensures .came .end-most in omega arith), fit .short)
 
 visit-kept-put-kept-requires-2 : (t : ℕ) → visit-kept-lts.Need-put-kept-requires-2 (visit-kept-claims t) (visit-kept-at t) visit-kept.Post
 visit-kept-put-kept-requires-2 t c κs =
-    let at-kept-at = c .before .before .before .before .before .before .before .before .before .before .before .before .before .kept-at in
     let at-start = c .before .before .before .before .before .before .before .before .before .before .before .before .before .before .before .before in
+    let at-kept-at = c .before .before .before .before .before .before .before .before .before .before .before .before .before .kept-at in
     let at-apply = c .before .before .before .before .before .before .before .before .apply in
-    omega (arith, at-kept-at .ensures, pair-in (at-start .args .given .now) (at-start .args .line .now) (at-start .args .node) (at-start .args .pos) ((at-start .pre .1 .0) .node-in) ((at-start .pre .1 .0) .pos-in), (at-start .pre .1 .0 .fit) .base, at-apply .ensures .came .words .room)
+    let given = at-start .args .given .now in
+    let line = at-start .args .line .now in
+    let pos = at-start .args .pos in
+    let ready = at-start .pre .1 .0 in
+    let fit = at-start .pre .1 .0 .fit in
+    omega (arith, at-kept-at .ensures, pair-in given line (at-start .args .node) pos (ready .node-in) (ready .pos-in), fit .base, at-apply .ensures .came .words .room)
 
 visit-kept-same-length-3 : (t : ℕ) → visit-kept-lts.Need-same-length-3 (visit-kept-claims t) (visit-kept-at t) visit-kept.Post
 visit-kept-same-length-3 t c = search needs
@@ -1038,12 +1436,23 @@ visit-kept-returns-5 t c =
     let at-put-kept2 = c .before .before .put-kept2 in
     let at-if3 = c .before .before .before .before .before .before .before .if3 in
     let at-if4 = c .before .before .before .before .before .if4 in
-    record { came = keep-match-at _ _ (at-start .pre .1 .0 .fit) (reading (at-start .args .given .now) (at-start .args .line .now) (at-start .args .left)) _ _ ((at-start .pre .1 .0) .node-in) ((at-start .pre .1 .0) .pos-in) _ (at-kept-at .ensures) ((at-start .pre .1 .0) .words) (at-start .pre .1 .1 .1) ((at-start .pre .1 .0) .made-in) (omega (arith, at-if1 .left, at-if2 .left)) (at-apply .ensures .came) (omega (arith, at-start .pre .1 .1 .0)) (omega (arith, at-apply .ensures .cells, at-apply .ensures .came .made-in, (at-start .pre .1 .0) .top-in)) (at-put-kept2 .ensures) (let e = at-if3 .left in let f = at-if4 .left in let m = at-apply .ensures .came .end-most in omega arith); cells = at-apply .ensures .cells }
+    let fit = at-start .pre .1 .0 .fit in
+    let given = at-start .args .given .now in
+    let line = at-start .args .line .now in
+    let left = at-start .args .left in
+    let visiting = reading given line left in
+    let ready = at-start .pre .1 .0 in
+    record {
+      came = keep-match-at _ _ fit visiting _ _ (ready .node-in) (ready .pos-in) _ (at-kept-at .ensures) (ready .words) (at-start .pre .1 .1 .1) (ready .made-in)
+          (omega (arith, at-if1 .left, at-if2 .left)) (at-apply .ensures .came) (omega (arith, at-start .pre .1 .1 .0)) (omega (arith, at-apply .ensures .cells, at-apply .ensures .came .made-in, ready .top-in)) (at-put-kept2 .ensures) (let e = at-if3 .left in let f = at-if4 .left in let m = at-apply .ensures .came .end-most in omega arith);
+      cells = at-apply .ensures .cells;
+    }
 
 visit-not-visit-requires : (t : ℕ) → visit-not-lts.Need-visit-requires (visit-not-claims t) (visit-not-at t) visit-not.Post
 visit-not-visit-requires t c κs =
     let at-start = c .before .before .before in
-    ((omega (arith, at-start .pre .0)), (at-start .pre .1 .0))
+    let ready = at-start .pre .1 .0 in
+    ((omega (arith, at-start .pre .0)), ready)
 
 visit-not-same-length : (t : ℕ) → visit-not-lts.Need-same-length (visit-not-claims t) (visit-not-at t) visit-not.Post
 visit-not-same-length t c = search needs
@@ -1053,7 +1462,16 @@ visit-not-returns t c =
     let at-start = c .before .before .before .before .before .before .before .before in
     let at-visit = c .before .before .before .before .visit in
     let at-if1 = c .if1 in
-    record { came = not-stop _ _ (at-start .pre .1 .0 .fit) (reading (at-start .args .given .now) (at-start .args .line .now) (at-start .args .left)) _ _ (at-visit .ensures .came) (at-if1 .taken); cells = at-visit .ensures .cells }
+    let fit = at-start .pre .1 .0 .fit in
+    let given = at-start .args .given .now in
+    let line = at-start .args .line .now in
+    let left = at-start .args .left in
+    let visiting = reading given line left in
+    let one = at-visit .ensures .came in
+    record {
+      came = not-stop _ _ fit visiting _ _ one (at-if1 .taken);
+      cells = at-visit .ensures .cells;
+    }
 
 visit-not-same-length-2 : (t : ℕ) → visit-not-lts.Need-same-length-2 (visit-not-claims t) (visit-not-at t) visit-not.Post
 visit-not-same-length-2 t c = search needs
@@ -1063,26 +1481,46 @@ visit-not-returns-2 t c =
     let at-start = c .before .before .before .before .before .before .before .before .before .before in
     let at-visit = c .before .before .before .before .before .before .visit in
     let at-if2 = c .if2 in
-    record { came = not-match _ _ (at-start .pre .1 .0 .fit) (reading (at-start .args .given .now) (at-start .args .line .now) (at-start .args .left)) _ _ (at-visit .ensures .came) (at-if2 .taken) ((at-start .pre .1 .0) .pos-in); cells = at-visit .ensures .cells }
+    let fit = at-start .pre .1 .0 .fit in
+    let given = at-start .args .given .now in
+    let line = at-start .args .line .now in
+    let left = at-start .args .left in
+    let visiting = reading given line left in
+    let one = at-visit .ensures .came in
+    let ready = at-start .pre .1 .0 in
+    record {
+      came = not-match _ _ fit visiting _ _ one (at-if2 .taken) (ready .pos-in);
+      cells = at-visit .ensures .cells;
+    }
 
 visit-not-same-length-3 : (t : ℕ) → visit-not-lts.Need-same-length-3 (visit-not-claims t) (visit-not-at t) visit-not.Post
 visit-not-same-length-3 t c = search needs
 
 visit-not-returns-3 : (t : ℕ) → visit-not-lts.Need-returns-3 (visit-not-claims t) (visit-not-at t) visit-not.Post
 visit-not-returns-3 t c =
-    let at-if1 = c .before .before .if1 in
-    let at-if2 = c .if2 in
     let at-visit = c .before .before .before .before .before .before .visit in
     let at-start = c .before .before .before .before .before .before .before .before .before .before in
+    let at-if1 = c .before .before .if1 in
+    let at-if2 = c .if2 in
+    let one = at-visit .ensures .came in
+    let fit = at-start .pre .1 .0 .fit in
+    let given = at-start .args .given .now in
+    let line = at-start .args .line .now in
+    let left = at-start .args .left in
+    let visiting = reading given line left in
     let e = at-if1 .left in
     let f = at-if2 .left in
-    let m = (at-visit .ensures .came) .end-most in
-    record { came = not-fail _ _ (at-start .pre .1 .0 .fit) (reading (at-start .args .given .now) (at-start .args .line .now) (at-start .args .left)) _ _ (at-visit .ensures .came) (omega arith); cells = at-visit .ensures .cells }
+    let m = one .end-most in
+    record {
+      came = not-fail _ _ fit visiting _ _ one (omega arith);
+      cells = at-visit .ensures .cells;
+    }
 
 visit-repetition-visit-requires : (t : ℕ) → visit-repetition-lts.Need-visit-requires (visit-repetition-claims t) (visit-repetition-at t) visit-repetition.Post
 visit-repetition-visit-requires t c κs =
     let at-start = c .before .before .before in
-    ((omega (arith, at-start .pre .0)), (at-start .pre .1 .0))
+    let ready = at-start .pre .1 .0 in
+    ((omega (arith, at-start .pre .0)), ready)
 
 visit-repetition-same-length : (t : ℕ) → visit-repetition-lts.Need-same-length (visit-repetition-claims t) (visit-repetition-at t) visit-repetition.Post
 visit-repetition-same-length t c = search needs
@@ -1092,7 +1530,16 @@ visit-repetition-returns t c =
     let at-start = c .before .before .before .before .before .before .before .before in
     let at-visit = c .before .before .before .before .visit in
     let at-if1 = c .if1 in
-    record { came = rep-stop _ _ (at-start .pre .1 .0 .fit) (reading (at-start .args .given .now) (at-start .args .line .now) (at-start .args .left)) _ _ (at-visit .ensures .came) _ (at-if1 .taken); cells = at-visit .ensures .cells }
+    let fit = at-start .pre .1 .0 .fit in
+    let given = at-start .args .given .now in
+    let line = at-start .args .line .now in
+    let left = at-start .args .left in
+    let visiting = reading given line left in
+    let one = at-visit .ensures .came in
+    record {
+      came = rep-stop _ _ fit visiting _ _ one _ (at-if1 .taken);
+      cells = at-visit .ensures .cells;
+    }
 
 visit-repetition-same-length-2 : (t : ℕ) → visit-repetition-lts.Need-same-length-2 (visit-repetition-claims t) (visit-repetition-at t) visit-repetition.Post
 visit-repetition-same-length-2 t c = search needs
@@ -1102,7 +1549,17 @@ visit-repetition-returns-2 t c =
     let at-start = c .before .before .before .before .before .before .before .before .before .before in
     let at-visit = c .before .before .before .before .before .before .visit in
     let at-if2 = c .if2 in
-    record { came = rep-none _ _ (at-start .pre .1 .0 .fit) (reading (at-start .args .given .now) (at-start .args .line .now) (at-start .args .left)) _ _ (at-visit .ensures .came) _ (at-if2 .taken) ((at-start .pre .1 .0) .pos-in); cells = at-visit .ensures .cells }
+    let fit = at-start .pre .1 .0 .fit in
+    let given = at-start .args .given .now in
+    let line = at-start .args .line .now in
+    let left = at-start .args .left in
+    let visiting = reading given line left in
+    let one = at-visit .ensures .came in
+    let ready = at-start .pre .1 .0 in
+    record {
+      came = rep-none _ _ fit visiting _ _ one _ (at-if2 .taken) (ready .pos-in);
+      cells = at-visit .ensures .cells;
+    }
 
 visit-repetition-same-length-3 : (t : ℕ) → visit-repetition-lts.Need-same-length-3 (visit-repetition-claims t) (visit-repetition-at t) visit-repetition.Post
 visit-repetition-same-length-3 t c = search needs
@@ -1112,7 +1569,17 @@ visit-repetition-returns-3 t c =
     let at-start = c .before .before .before .before .before .before .before .before .before .before .before .before in
     let at-visit = c .before .before .before .before .before .before .before .before .visit in
     let at-if3 = c .if3 in
-    record { came = rep-empty _ _ (at-start .pre .1 .0 .fit) (reading (at-start .args .given .now) (at-start .args .line .now) (at-start .args .left)) _ _ (at-visit .ensures .came) _ (at-if3 .taken) ((at-start .pre .1 .0) .pos-in); cells = at-visit .ensures .cells }
+    let fit = at-start .pre .1 .0 .fit in
+    let given = at-start .args .given .now in
+    let line = at-start .args .line .now in
+    let left = at-start .args .left in
+    let visiting = reading given line left in
+    let one = at-visit .ensures .came in
+    let ready = at-start .pre .1 .0 in
+    record {
+      came = rep-empty _ _ fit visiting _ _ one _ (at-if3 .taken) (ready .pos-in);
+      cells = at-visit .ensures .cells;
+    }
 
 visit-repetition-visit-requires-2 : (t : ℕ) → visit-repetition-lts.Need-visit-requires-2 (visit-repetition-claims t) (visit-repetition-at t) visit-repetition.Post
 visit-repetition-visit-requires-2 t c κs =
@@ -1120,7 +1587,9 @@ visit-repetition-visit-requires-2 t c κs =
     let at-visit = c .before .before .before .before .before .before .before .before .before .visit in
     let at-if1 = c .before .before .before .before .before .if1 in
     let at-if2 = c .before .before .before .if2 in
-    ((omega (arith, at-start .pre .0)), ready-next _ _ (at-start .pre .1 .0) (at-visit .ensures .came) (at-visit .ensures .cells) (at-start .pre .1 .1 .1) ((at-visit .ensures .came) .end-in (let e = at-if1 .left in let f = at-if2 .left in let m = (at-visit .ensures .came) .end-most in omega arith)))
+    let ready = at-start .pre .1 .0 in
+    let one = at-visit .ensures .came in
+    ((omega (arith, at-start .pre .0)), ready-next _ _ ready one (at-visit .ensures .cells) (at-start .pre .1 .1 .1) (one .end-in (let e = at-if1 .left in let f = at-if2 .left in let m = one .end-most in omega arith)))
 
 visit-repetition-same-length-4 : (t : ℕ) → visit-repetition-lts.Need-same-length-4 (visit-repetition-claims t) (visit-repetition-at t) visit-repetition.Post
 visit-repetition-same-length-4 t c = search needs
@@ -1129,31 +1598,45 @@ visit-repetition-returns-4 : (t : ℕ) → visit-repetition-lts.Need-returns-4 (
 visit-repetition-returns-4 t c =
     let at-start = c .before .before .before .before .before .before .before .before .before .before .before .before .before .before .before .before .before .before in
     let at-visit = c .before .before .before .before .before .before .before .before .before .before .before .before .before .before .visit in
+    let at-visit2 = c .before .before .before .before .visit2 in
     let at-if1 = c .before .before .before .before .before .before .before .before .before .before .if1 in
     let at-if2 = c .before .before .before .before .before .before .before .before .if2 in
     let at-if3 = c .before .before .before .before .before .before .if3 in
-    let at-visit2 = c .before .before .before .before .visit2 in
     let at-if4 = c .if4 in
-    record { came = rep-next _ _ (at-start .pre .1 .0 .fit) (reading (at-start .args .given .now) (at-start .args .line .now) (at-start .args .left)) _ _ (at-visit .ensures .came) _ (let e = at-if1 .left in let f = at-if2 .left in let m = (at-visit .ensures .came) .end-most in omega arith) (at-if3 .left) (at-visit2 .ensures .came) (at-if4 .taken); cells = omega (arith, at-visit .ensures .cells, at-visit2 .ensures .cells) }
+    let fit = at-start .pre .1 .0 .fit in
+    let given = at-start .args .given .now in
+    let line = at-start .args .line .now in
+    let left = at-start .args .left in
+    let visiting = reading given line left in
+    let one = at-visit .ensures .came in
+    let two = at-visit2 .ensures .came in
+    record {
+      came = rep-next _ _ fit visiting _ _ one _ (let e = at-if1 .left in let f = at-if2 .left in let m = one .end-most in omega arith) (at-if3 .left) two (at-if4 .taken);
+      cells = omega (arith, at-visit .ensures .cells, at-visit2 .ensures .cells);
+    }
 
 visit-repetition-join-requires : (t : ℕ) → visit-repetition-lts.Need-join-requires (visit-repetition-claims t) (visit-repetition-at t) visit-repetition.Post
 visit-repetition-join-requires t c κs =
     let at-visit = c .before .before .before .before .before .before .before .before .before .before .before .before .before .before .before .visit in
+    let at-visit2 = c .before .before .before .before .before .visit2 in
+    let at-start = c .before .before .before .before .before .before .before .before .before .before .before .before .before .before .before .before .before .before .before in
     let at-if1 = c .before .before .before .before .before .before .before .before .before .before .before .if1 in
     let at-if2 = c .before .before .before .before .before .before .before .before .before .if2 in
-    let at-visit2 = c .before .before .before .before .before .visit2 in
     let at-if4 = c .before .if4 in
-    let at-start = c .before .before .before .before .before .before .before .before .before .before .before .before .before .before .before .before .before .before .before in
-    let f = at-visit .ensures .fewer (let e = at-if1 .left in let f = at-if2 .left in let m = (at-visit .ensures .came) .end-most in omega arith) in
+    let one = at-visit .ensures .came in
+    let two = at-visit2 .ensures .came in
+    let ready = at-start .pre .1 .0 in
+    let fit = at-start .pre .1 .0 .fit in
+    let f = at-visit .ensures .fewer (let e = at-if1 .left in let f = at-if2 .left in let m = one .end-most in omega arith) in
     let g = at-visit2 .ensures .fewer (at-if4 .left) in
-    let h = (at-visit .ensures .came) .list-in (let e = at-if1 .left in let f = at-if2 .left in let m = (at-visit .ensures .came) .end-most in omega arith) in
-    let i = (at-visit2 .ensures .came) .list-in (at-if4 .left) in
-    let u = (at-visit2 .ensures .came) .top-up in
-    let m = (at-visit2 .ensures .came) .made-in in
-    let r = (at-visit2 .ensures .came) .words .room in
-    let t = (at-start .pre .1 .0) .top-in in
-    let al = (at-start .pre .1 .0 .fit) .allowance in
-    (((at-visit2 .ensures .came) .words .arena, (omega arith, omega arith)), (omega arith, omega arith))
+    let h = one .list-in (let e = at-if1 .left in let f = at-if2 .left in let m = one .end-most in omega arith) in
+    let i = two .list-in (at-if4 .left) in
+    let u = two .top-up in
+    let m = two .made-in in
+    let r = two .words .room in
+    let t = ready .top-in in
+    let al = fit .allowance in
+    ((two .words .arena, (omega arith, omega arith)), (omega arith, omega arith))
 
 visit-repetition-same-length-5 : (t : ℕ) → visit-repetition-lts.Need-same-length-5 (visit-repetition-claims t) (visit-repetition-at t) visit-repetition.Post
 visit-repetition-same-length-5 t c = search needs
@@ -1161,25 +1644,37 @@ visit-repetition-same-length-5 t c = search needs
 visit-repetition-returns-5 : (t : ℕ) → visit-repetition-lts.Need-returns-5 (visit-repetition-claims t) (visit-repetition-at t) visit-repetition.Post
 visit-repetition-returns-5 t c =
     let at-visit = c .before .before .before .before .before .before .before .before .before .before .before .before .before .before .before .before .before .before .visit in
+    let at-visit2 = c .before .before .before .before .before .before .before .before .visit2 in
+    let at-start = c .before .before .before .before .before .before .before .before .before .before .before .before .before .before .before .before .before .before .before .before .before .before in
     let at-if1 = c .before .before .before .before .before .before .before .before .before .before .before .before .before .before .if1 in
     let at-if2 = c .before .before .before .before .before .before .before .before .before .before .before .before .if2 in
-    let at-visit2 = c .before .before .before .before .before .before .before .before .visit2 in
     let at-if4 = c .before .before .before .before .if4 in
-    let at-start = c .before .before .before .before .before .before .before .before .before .before .before .before .before .before .before .before .before .before .before .before .before .before in
     let at-join = c .before .before .join in
     let at-if3 = c .before .before .before .before .before .before .before .before .before .before .if3 in
-    let f = at-visit .ensures .fewer (let e = at-if1 .left in let f = at-if2 .left in let m = (at-visit .ensures .came) .end-most in omega arith) in
+    let one = at-visit .ensures .came in
+    let two = at-visit2 .ensures .came in
+    let ready = at-start .pre .1 .0 in
+    let fit = at-start .pre .1 .0 .fit in
+    let given = at-start .args .given .now in
+    let line = at-start .args .line .now in
+    let left = at-start .args .left in
+    let visiting = reading given line left in
+    let f = at-visit .ensures .fewer (let e = at-if1 .left in let f = at-if2 .left in let m = one .end-most in omega arith) in
     let g = at-visit2 .ensures .fewer (at-if4 .left) in
-    let m = (at-visit2 .ensures .came) .made-in in
-    let t = (at-start .pre .1 .0) .top-in in
+    let m = two .made-in in
+    let t = ready .top-in in
     let o = at-start .pre .1 .1 .0 in
     let j = at-join .ensures .1 .one in
-    record { came = rep-join _ _ (at-start .pre .1 .0 .fit) (reading (at-start .args .given .now) (at-start .args .line .now) (at-start .args .left)) _ _ (at-visit .ensures .came) _ (let e = at-if1 .left in let f = at-if2 .left in let m = (at-visit .ensures .came) .end-most in omega arith) (at-if3 .left) (at-visit2 .ensures .came) (at-if4 .left) (omega arith) (omega arith) (at-join .ensures .1); cells = omega arith }
+    record {
+      came = rep-join _ _ fit visiting _ _ one _ (let e = at-if1 .left in let f = at-if2 .left in let m = one .end-most in omega arith) (at-if3 .left) two (at-if4 .left) (omega arith) (omega arith) (at-join .ensures .1);
+      cells = omega arith;
+    }
 
 visit-sequence-visit-requires : (t : ℕ) → visit-sequence-lts.Need-visit-requires (visit-sequence-claims t) (visit-sequence-at t) visit-sequence.Post
 visit-sequence-visit-requires t c κs =
     let at-start = c .before .before .before in
-    ((omega (arith, at-start .pre .0)), (at-start .pre .1 .0))
+    let ready = at-start .pre .1 .0 in
+    ((omega (arith, at-start .pre .0)), ready)
 
 visit-sequence-same-length : (t : ℕ) → visit-sequence-lts.Need-same-length (visit-sequence-claims t) (visit-sequence-at t) visit-sequence.Post
 visit-sequence-same-length t c = search needs
@@ -1189,14 +1684,25 @@ visit-sequence-returns t c =
     let at-start = c .before .before .before .before .before .before .before .before in
     let at-visit = c .before .before .before .before .visit in
     let at-if1 = c .if1 in
-    record { came = seq-first _ _ (at-start .pre .1 .0 .fit) (reading (at-start .args .given .now) (at-start .args .line .now) (at-start .args .left)) _ _ (at-visit .ensures .came) _ (at-if1 .taken); cells = at-visit .ensures .cells }
+    let fit = at-start .pre .1 .0 .fit in
+    let given = at-start .args .given .now in
+    let line = at-start .args .line .now in
+    let left = at-start .args .left in
+    let visiting = reading given line left in
+    let one = at-visit .ensures .came in
+    record {
+      came = seq-first _ _ fit visiting _ _ one _ (at-if1 .taken);
+      cells = at-visit .ensures .cells;
+    }
 
 visit-sequence-visit-requires-2 : (t : ℕ) → visit-sequence-lts.Need-visit-requires-2 (visit-sequence-claims t) (visit-sequence-at t) visit-sequence.Post
 visit-sequence-visit-requires-2 t c κs =
     let at-start = c .before .before .before .before .before .before .before .before .before in
     let at-visit = c .before .before .before .before .before .visit in
     let at-if1 = c .before .if1 in
-    ((omega (arith, at-start .pre .0)), ready-next _ _ (at-start .pre .1 .0) (at-visit .ensures .came) (at-visit .ensures .cells) (at-start .pre .1 .1 .1) ((at-visit .ensures .came) .end-in (at-if1 .left)))
+    let ready = at-start .pre .1 .0 in
+    let one = at-visit .ensures .came in
+    ((omega (arith, at-start .pre .0)), ready-next _ _ ready one (at-visit .ensures .cells) (at-start .pre .1 .1 .1) (one .end-in (at-if1 .left)))
 
 visit-sequence-same-length-2 : (t : ℕ) → visit-sequence-lts.Need-same-length-2 (visit-sequence-claims t) (visit-sequence-at t) visit-sequence.Post
 visit-sequence-same-length-2 t c = search needs
@@ -1205,47 +1711,72 @@ visit-sequence-returns-2 : (t : ℕ) → visit-sequence-lts.Need-returns-2 (visi
 visit-sequence-returns-2 t c =
     let at-start = c .before .before .before .before .before .before .before .before .before .before .before .before .before .before in
     let at-visit = c .before .before .before .before .before .before .before .before .before .before .visit in
-    let at-if1 = c .before .before .before .before .before .before .if1 in
     let at-visit2 = c .before .before .before .before .visit2 in
+    let at-if1 = c .before .before .before .before .before .before .if1 in
     let at-if2 = c .if2 in
-    record { came = seq-second _ _ (at-start .pre .1 .0 .fit) (reading (at-start .args .given .now) (at-start .args .line .now) (at-start .args .left)) _ _ (at-visit .ensures .came) _ (at-if1 .left) (at-visit2 .ensures .came) (at-if2 .taken); cells = omega (arith, at-visit .ensures .cells, at-visit2 .ensures .cells) }
+    let fit = at-start .pre .1 .0 .fit in
+    let given = at-start .args .given .now in
+    let line = at-start .args .line .now in
+    let left = at-start .args .left in
+    let visiting = reading given line left in
+    let one = at-visit .ensures .came in
+    let two = at-visit2 .ensures .came in
+    record {
+      came = seq-second _ _ fit visiting _ _ one _ (at-if1 .left) two (at-if2 .taken);
+      cells = omega (arith, at-visit .ensures .cells, at-visit2 .ensures .cells);
+    }
 
 visit-sequence-join-requires : (t : ℕ) → visit-sequence-lts.Need-join-requires (visit-sequence-claims t) (visit-sequence-at t) visit-sequence.Post
 visit-sequence-join-requires t c κs =
     let at-visit = c .before .before .before .before .before .before .before .before .before .before .before .visit in
-    let at-if1 = c .before .before .before .before .before .before .before .if1 in
     let at-visit2 = c .before .before .before .before .before .visit2 in
-    let at-if2 = c .before .if2 in
     let at-start = c .before .before .before .before .before .before .before .before .before .before .before .before .before .before .before in
+    let at-if1 = c .before .before .before .before .before .before .before .if1 in
+    let at-if2 = c .before .if2 in
+    let one = at-visit .ensures .came in
+    let two = at-visit2 .ensures .came in
+    let ready = at-start .pre .1 .0 in
+    let fit = at-start .pre .1 .0 .fit in
     let f = at-visit .ensures .fewer (at-if1 .left) in
     let g = at-visit2 .ensures .fewer (at-if2 .left) in
-    let h = (at-visit .ensures .came) .list-in (at-if1 .left) in
-    let i = (at-visit2 .ensures .came) .list-in (at-if2 .left) in
-    let u = (at-visit2 .ensures .came) .top-up in
-    let m = (at-visit2 .ensures .came) .made-in in
-    let r = (at-visit2 .ensures .came) .words .room in
-    let t = (at-start .pre .1 .0) .top-in in
-    let al = (at-start .pre .1 .0 .fit) .allowance in
-    (((at-visit2 .ensures .came) .words .arena, (omega arith, omega arith)), (omega arith, omega arith))
+    let h = one .list-in (at-if1 .left) in
+    let i = two .list-in (at-if2 .left) in
+    let u = two .top-up in
+    let m = two .made-in in
+    let r = two .words .room in
+    let t = ready .top-in in
+    let al = fit .allowance in
+    ((two .words .arena, (omega arith, omega arith)), (omega arith, omega arith))
 
 visit-sequence-same-length-3 : (t : ℕ) → visit-sequence-lts.Need-same-length-3 (visit-sequence-claims t) (visit-sequence-at t) visit-sequence.Post
 visit-sequence-same-length-3 t c = search needs
 
 visit-sequence-returns-3 : (t : ℕ) → visit-sequence-lts.Need-returns-3 (visit-sequence-claims t) (visit-sequence-at t) visit-sequence.Post
 visit-sequence-returns-3 t c =
+    let at-visit2 = c .before .before .before .before .before .before .before .before .visit2 in
+    let at-start = c .before .before .before .before .before .before .before .before .before .before .before .before .before .before .before .before .before .before in
     let at-visit = c .before .before .before .before .before .before .before .before .before .before .before .before .before .before .visit in
     let at-if1 = c .before .before .before .before .before .before .before .before .before .before .if1 in
-    let at-visit2 = c .before .before .before .before .before .before .before .before .visit2 in
     let at-if2 = c .before .before .before .before .if2 in
-    let at-start = c .before .before .before .before .before .before .before .before .before .before .before .before .before .before .before .before .before .before in
     let at-join = c .before .before .join in
+    let two = at-visit2 .ensures .came in
+    let ready = at-start .pre .1 .0 in
+    let fit = at-start .pre .1 .0 .fit in
+    let given = at-start .args .given .now in
+    let line = at-start .args .line .now in
+    let left = at-start .args .left in
+    let visiting = reading given line left in
+    let one = at-visit .ensures .came in
     let f = at-visit .ensures .fewer (at-if1 .left) in
     let g = at-visit2 .ensures .fewer (at-if2 .left) in
-    let m = (at-visit2 .ensures .came) .made-in in
-    let t = (at-start .pre .1 .0) .top-in in
+    let m = two .made-in in
+    let t = ready .top-in in
     let o = at-start .pre .1 .1 .0 in
     let j = at-join .ensures .1 .one in
-    record { came = seq-join _ _ (at-start .pre .1 .0 .fit) (reading (at-start .args .given .now) (at-start .args .line .now) (at-start .args .left)) _ _ (at-visit .ensures .came) _ (at-if1 .left) (at-visit2 .ensures .came) (at-if2 .left) (omega arith) (omega arith) (at-join .ensures .1); cells = omega arith }
+    record {
+      came = seq-join _ _ fit visiting _ _ one _ (at-if1 .left) two (at-if2 .left) (omega arith) (omega arith) (at-join .ensures .1);
+      cells = omega arith;
+    }
 
 pub +apply+use-free+use-live+use-rule+visit+visit-choice+visit-kept+visit-not+visit-repetition+visit-sequence-spec :
     {M : Type 1} → statement M
