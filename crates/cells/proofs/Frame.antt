@@ -34,27 +34,27 @@ lists-at words zero list h = let e : list ≡ 0 = omega arith in rw e
 lists-at words (suc k) list h =
     ⊎-elim (λ e. rw e) (λ l. List·getD-append (lists words k) _ no-trees list (omega (arith, length-lists words k)) ∙ lists-at words k list (omega arith)) (eq-or-lt-of-le h)
 
--- The trees of a cell, by its first two words.
-pub trees-cell : (words : List ℕ) (k : ℕ) → treesAt words (k + 1) ≡ cellTrees (getD words (2048 + 4 * k) 0) (getD words (2049 + 4 * k) 0) (lists words k)
+-- The trees of a cell, by its first and second.
+pub trees-cell : (words : List ℕ) (k : ℕ) → treesAt words (k + 1) ≡ cellTrees (getD words (2048 + 4 * k) 0) (getD words (2050 + 4 * k) 0) (lists words k)
 unfolding treesAt lists
 trees-cell words k = rw (add-one k) (getD-at (lists words k) _ [] no-trees (suc k) (length-lists words k))
 
 module _ (words : List ℕ) (top k : ℕ) (arena : Arena words top) (h : k < top) where
-  pub trees-join : getD words (2049 + 4 * k) 0 < mark → treesAt words (k + 1) ≡ treesAt words (getD words (2048 + 4 * k) 0) ⋈ treesAt words (getD words (2049 + 4 * k) 0)
+  pub trees-join : getD words (2050 + 4 * k) 0 < mark → treesAt words (k + 1) ≡ treesAt words (getD words (2048 + 4 * k) 0) ⋈ treesAt words (getD words (2050 + 4 * k) 0)
   unfolding cellTrees
   trees-join m =
       trees-cell words k
-      ∙ rw (lt-ltb (getD words (2049 + 4 * k) 0) mark m, lists-at words k (getD words (2048 + 4 * k) 0) (arena .first k h), lists-at words k (getD words (2049 + 4 * k) 0) (arena .second k h m))
+      ∙ rw (lt-ltb (getD words (2050 + 4 * k) 0) mark m, lists-at words k (getD words (2048 + 4 * k) 0) (arena .first k h), lists-at words k (getD words (2050 + 4 * k) 0) (arena .second k h m))
 
-  pub trees-tree : mark ≤ getD words (2049 + 4 * k) 0
+  pub trees-tree : mark ≤ getD words (2050 + 4 * k) 0
       → treesAt words (k + 1)
-      ≡ tree (getD words (2049 + 4 * k) 0 / 16777216 % 64) (getD words (2049 + 4 * k) 0 / 4096 % 4096) (getD words (2049 + 4 * k) 0 % 4096) (treesAt words (getD words (2048 + 4 * k) 0)) no-trees
+      ≡ tree (getD words (2050 + 4 * k) 0 / 16777216 % 64) (getD words (2050 + 4 * k) 0 / 4096 % 4096) (getD words (2050 + 4 * k) 0 % 4096) (treesAt words (getD words (2048 + 4 * k) 0)) no-trees
   unfolding cellTrees
-  trees-tree m = trees-cell words k ∙ rw (le-ltb (getD words (2049 + 4 * k) 0) mark m, lists-at words k (getD words (2048 + 4 * k) 0) (arena .first k h))
+  trees-tree m = trees-cell words k ∙ rw (le-ltb (getD words (2050 + 4 * k) 0) mark m, lists-at words k (getD words (2048 + 4 * k) 0) (arena .first k h))
 
 -- The words of the cells below top, and those of list 0, are the same.
 abbrev pub SameCells : List ℕ → List ℕ → ℕ → Type 0
-SameCells old new top = (i : ℕ) → 2046 ≤ i → i < 2048 + 4 * top → getD new i 0 ≡ getD old i 0
+SameCells old new top = (i : ℕ) → 2045 ≤ i → i < 2048 + 4 * top → getD new i 0 ≡ getD old i 0
 
 pub same-then : (old mid new : List ℕ) (top : ℕ) → SameCells old mid top → SameCells mid new top → SameCells old new top
 same-then old mid new top h g i a b = g i a b ∙ h i a b
@@ -63,7 +63,7 @@ pub same-less : (old new : List ℕ) (top k : ℕ) → k ≤ top → SameCells o
 same-less old new top k l h i a b = h i a (omega arith)
 
 -- Words are written below the cells, or above them.
-pub same-below : (words : List ℕ) (top at : ℕ) (xs : List ℕ) → at + length xs ≤ 2046 → SameCells words (sets words at xs) top
+pub same-below : (words : List ℕ) (top at : ℕ) (xs : List ℕ) → at + length xs ≤ 2045 → SameCells words (sets words at xs) top
 same-below words top at xs h i a b = sets-above xs words at i (omega arith)
 
 pub same-above : (words : List ℕ) (top at : ℕ) (xs : List ℕ) → 2048 + 4 * top ≤ at → SameCells words (sets words at xs) top
@@ -79,7 +79,7 @@ lists-same old new zero h = refl
 lists-same old new (suc k) h =
     let a : lists new k ≡ lists old k = lists-same old new k (λ i l u. h i l (omega arith)) in
     let f : getD new (2048 + 4 * k) 0 ≡ getD old (2048 + 4 * k) 0 = h _ (omega arith) (omega arith) in
-    let s : getD new (2049 + 4 * k) 0 ≡ getD old (2049 + 4 * k) 0 = h _ (omega arith) (omega arith) in
+    let s : getD new (2050 + 4 * k) 0 ≡ getD old (2050 + 4 * k) 0 = h _ (omega arith) (omega arith) in
     rw (a, f, s)
 
 -- Where the cells are the same, every list of them stands for the same trees, and what is kept true of them stays true.
@@ -91,8 +91,8 @@ pub arena-same : (old new : List ℕ) (top : ℕ) → SameCells old new top → 
 arena-same old new top h e a = record {
   long = let z = a .long in omega arith;
   first = λ k u. rw (h (2048 + 4 * k) (omega arith) (omega arith)) (a .first k u);
-  second = λ k u. rw (h (2049 + 4 * k) (omega arith) (omega arith)) (a .second k u);
-  records = λ list u. rw (h (2046 + 4 * list) (omega arith) (omega arith), trees-same old new top list h u) (a .records list u);
+  second = λ k u. rw (h (2050 + 4 * k) (omega arith) (omega arith)) (a .second k u);
+  records = λ list u. rw (h (2045 + 4 * list) (omega arith) (omega arith), trees-same old new top list h u) (a .records list u);
   trees = λ list u. rw (h (2047 + 4 * list) (omega arith) (omega arith), trees-same old new top list h u) (a .trees list u);
 }
 
@@ -105,7 +105,7 @@ arena-less words top k h a = record {
   trees = λ i u. a .trees i (omega arith);
 }
 
-pub arena-below : (words : List ℕ) (top at : ℕ) (xs : List ℕ) → at + length xs ≤ 2046 → Arena words top → Arena (sets words at xs) top
+pub arena-below : (words : List ℕ) (top at : ℕ) (xs : List ℕ) → at + length xs ≤ 2045 → Arena words top → Arena (sets words at xs) top
 arena-below words top at xs h a = arena-same words (sets words at xs) top (same-below words top at xs h) (length-sets words at xs) a
 
 pub arena-above : (words : List ℕ) (top at : ℕ) (xs : List ℕ) → 2048 + 4 * top ≤ at → Arena words top → Arena (sets words at xs) top

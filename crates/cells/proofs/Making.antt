@@ -36,20 +36,20 @@ module _ (words : List ℕ) (k f s r t : ℕ) (room : 2048 + 4 * k + 3 < length 
 
   below : (i : ℕ) → i < 2048 + 4 * k → getD new i 0 ≡ getD words i 0
   unfolding new withCell
-  below i h = sets-below (f ∷ s ∷ r ∷ t ∷ []) words (2048 + 4 * k) i h
+  below i h = sets-below (f ∷ r ∷ s ∷ t ∷ []) words (2048 + 4 * k) i h
 
   above : (i : ℕ) → 2048 + 4 * (k + 1) ≤ i → getD new i 0 ≡ getD words i 0
   unfolding new withCell
-  above i h = sets-above (f ∷ s ∷ r ∷ t ∷ []) words (2048 + 4 * k) i (omega arith)
+  above i h = sets-above (f ∷ r ∷ s ∷ t ∷ []) words (2048 + 4 * k) i (omega arith)
 
   long : length new ≡ length words
   unfolding new withCell
-  long = length-sets words (2048 + 4 * k) (f ∷ s ∷ r ∷ t ∷ [])
+  long = length-sets words (2048 + 4 * k) (f ∷ r ∷ s ∷ t ∷ [])
 
   -- The word of the cell that stands at an index.
-  word : (j i : ℕ) → j < 4 → i ≡ 2048 + 4 * k + j → getD new i 0 ≡ getD (f ∷ s ∷ r ∷ t ∷ []) j 0
+  word : (j i : ℕ) → j < 4 → i ≡ 2048 + 4 * k + j → getD new i 0 ≡ getD (f ∷ r ∷ s ∷ t ∷ []) j 0
   unfolding new withCell
-  word j i h e = rw e (sets-at (f ∷ s ∷ r ∷ t ∷ []) words (2048 + 4 * k) j h (omega arith))
+  word j i h e = rw e (sets-at (f ∷ r ∷ s ∷ t ∷ []) words (2048 + 4 * k) j h (omega arith))
 
   same : SameCells words new k
   same i a b = below i b
@@ -57,7 +57,7 @@ module _ (words : List ℕ) (k f s r t : ℕ) (room : 2048 + 4 * k + 3 < length 
   is : treesAt new (k + 1) ≡ cellTrees f s (lists words k)
   is =
       let w0 : getD new (2048 + 4 * k) 0 ≡ f = word 0 (2048 + 4 * k) (omega arith) (omega arith) in
-      let w1 : getD new (2049 + 4 * k) 0 ≡ s = word 1 (2049 + 4 * k) (omega arith) (omega arith) in
+      let w1 : getD new (2050 + 4 * k) 0 ≡ s = word 2 (2050 + 4 * k) (omega arith) (omega arith) in
       trees-cell new k ∙ rw (w0, w1, lists-same words new k same)
 
   module _ (hf : f ≤ k) (hs : s < mark → s ≤ k) (ts : Trees) (e : cellTrees f s (lists words k) ≡ ts) (er : r ≡ saturated (recordsOf ts)) (et : t ≡ saturated (numberOf ts)) where
@@ -68,14 +68,14 @@ module _ (words : List ℕ) (k f s r t : ℕ) (room : 2048 + 4 * k + 3 < length 
     first i h =
         ⊎-elim (λ q. rw (q, word 0 (2048 + 4 * k) (omega arith) (omega arith)) hf) (λ l. rw (below (2048 + 4 * i) (omega arith)) (arena .first i l)) (eq-or-lt-of-le h)
 
-    second : (i : ℕ) → i ≤ k → getD new (2049 + 4 * i) 0 < mark → getD new (2049 + 4 * i) 0 ≤ i
+    second : (i : ℕ) → i ≤ k → getD new (2050 + 4 * i) 0 < mark → getD new (2050 + 4 * i) 0 ≤ i
     second i h =
-        ⊎-elim (λ q. rw (q, word 1 (2049 + 4 * k) (omega arith) (omega arith)) hs) (λ l. rw (below (2049 + 4 * i) (omega arith)) (arena .second i l)) (eq-or-lt-of-le h)
+        ⊎-elim (λ q. rw (q, word 2 (2050 + 4 * k) (omega arith) (omega arith)) hs) (λ l. rw (below (2050 + 4 * i) (omega arith)) (arena .second i l)) (eq-or-lt-of-le h)
 
     records : (list : ℕ) → list ≤ k + 1 → recordsWord new list ≡ saturated (recordsOf (treesAt new list))
     records list h =
-        ⊎-elim (λ q. rw (q, word 2 (2046 + 4 * (k + 1)) (omega arith) (omega arith), is, e) er)
-        (λ l. rw (below (2046 + 4 * list) (omega arith), older list (omega arith)) (arena .records list (omega arith)))
+        ⊎-elim (λ q. rw (q, word 1 (2045 + 4 * (k + 1)) (omega arith) (omega arith), is, e) er)
+        (λ l. rw (below (2045 + 4 * list) (omega arith), older list (omega arith)) (arena .records list (omega arith)))
         (eq-or-lt-of-le h)
 
     trees : (list : ℕ) → list ≤ k + 1 → treesWord new list ≡ saturated (numberOf (treesAt new list))
@@ -130,20 +130,20 @@ module _ (words : List ℕ) (k : ℕ) (room : 2048 + 4 * k + 3 < length words) (
       (saturated-sum _ _ _ _ _ _ (arena .trees f hf) (arena .trees s hs) refl (number-join (treesAt words f) (treesAt words s)))
 
 -- Before the first cell.
-pub no-cells : (words : List ℕ) → 2048 ≤ length words → Arena (sets words 2046 (0 ∷ 0 ∷ [])) 0
+pub no-cells : (words : List ℕ) → 2048 ≤ length words → Arena (sets words 2045 (0 ∷ 0 ∷ 0 ∷ [])) 0
 unfolding recordsOf numberOf
 no-cells words h =
-    let new = sets words 2046 (0 ∷ 0 ∷ []) in
+    let new = sets words 2045 (0 ∷ 0 ∷ 0 ∷ []) in
     record {
-      long = omega (arith, length-sets words 2046 (0 ∷ 0 ∷ []));
+      long = omega (arith, length-sets words 2045 (0 ∷ 0 ∷ 0 ∷ []));
       first = λ k u. absurd (omega arith);
       second = λ k u. absurd (omega arith);
-      records = λ list u. let z : list ≡ 0 = omega arith in rw z (rw (trees-none new) (sets-at (0 ∷ 0 ∷ []) words 2046 0 (omega arith) (omega arith)));
-      trees = λ list u. let z : list ≡ 0 = omega arith in rw z (rw (trees-none new) (sets-at (0 ∷ 0 ∷ []) words 2046 1 (omega arith) (omega arith)));
+      records = λ list u. let z : list ≡ 0 = omega arith in rw z (rw (trees-none new) (sets-at (0 ∷ 0 ∷ 0 ∷ []) words 2045 0 (omega arith) (omega arith)));
+      trees = λ list u. let z : list ≡ 0 = omega arith in rw z (rw (trees-none new) (sets-at (0 ∷ 0 ∷ 0 ∷ []) words 2045 2 (omega arith) (omega arith)));
     }
 
 -- What the code writes, store by store.
-pub cell-put : (words : List ℕ) (k f s r t : ℕ) → set (set (set (set words (2048 + 4 * k) f) (2048 + 4 * k + 1) s) (2048 + 4 * k + 2) r) (2048 + 4 * k + 3) t ≡ withCell words k f s r t
+pub cell-put : (words : List ℕ) (k f s r t : ℕ) → set (set (set (set words (2048 + 4 * k) f) (2048 + 4 * k + 1) r) (2048 + 4 * k + 2) s) (2048 + 4 * k + 3) t ≡ withCell words k f s r t
 unfolding withCell
 cell-put words k f s r t = rw (add-one, add-two, add-three)
 

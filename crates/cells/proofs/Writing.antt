@@ -1,14 +1,11 @@
--- Writing the records of a list, cell by cell, and the whole stored reading of one tree.
-use mathlib.Core.Path.{_≡_, refl, sym, ap, _∙_}
-use mathlib.Core.Bool.{Bool, true, false}
-use mathlib.Core.List.{List, _++_, append-nil}
+-- Writing the records of a list from its end to its front, cell by cell, and the whole stored reading of one tree.
+use mathlib.Core.Path.{_≡_, refl, ap, _∙_}
+use mathlib.Core.List.{List, [], _∷_, _++_, append-nil}
 use native.Mathlib.Omega.{arith}
-use native.Mathlib.Nat.{mul-add, mul-one, mul-zero, mul-le-mul-left}
-use Prim.Native.Nat.{ℕ, _+_, _-_, _*_, _/_, _%_, _<_, _≤_}
-use lib.ListN.{length, getD}
-use lib.Seq.{sets}
-use lib.Dec.{ltb}
-use borrow.Author.Tests.{ltb-true, ltb-false}
+use native.Mathlib.Nat.{mul-add, mul-one, mul-zero}
+use Prim.Native.Nat.{ℕ, suc, _+_, _-_, _*_, _/_, _%_, _<_, _≤_}
+use lib.ListN.{length, getD, set}
+use lib.Seq.{sets, length-sets, set-comm}
 use Rattle.meaning.specs.Grammar.{Trees, no-trees, tree, _⋈_}
 use Rattle.stored.specs.Stored.{recordsOf, numberOf, recordSize, recordBytes, treesBytes, storedLength, headBytes, storedOf, withStored}
 use Rattle.stored.proofs.Sets.{sets-on, sets-front}
@@ -17,23 +14,27 @@ use Rattle.cells.specs.Cells.{saturated, mark, treesAt, Wrote}
 use Rattle.cells.specs.Arena.{Arena}
 use Rattle.cells.proofs.Frame.{trees-zero, trees-join, trees-tree, arena-less}
 
--- The first two words of a list's cell, as the code reads them.
+-- The first and second of a list's cell, as the code reads them.
 abbrev pub first : List ℕ → ℕ → ℕ
 first words list = getD words (2044 + 4 * list) 0
 
 abbrev pub second : List ℕ → ℕ → ℕ
-second words list = getD words (2044 + 4 * list + 1) 0
+second words list = getD words (2044 + 4 * list + 2) 0
 
--- The empty list.
-pub none-wrote : (words : List ℕ) (list : ℕ) (room : List ℕ) (width at : ℕ) → list ≡ 0 → Wrote room room width at at (treesAt words list)
-unfolding recordsOf treesBytes
-none-wrote words list room width at z = rw (trees-zero words list z) (omega (arith, mul-zero (recordSize width)), refl)
+-- What is written in front of what was written behind is as good as both written at once.
+set-front : (ys room : List ℕ) (at next x : ℕ) → at < next → set (sets room next ys) at x ≡ sets (set room at x) next ys
+set-front [] room at next x h = refl
+set-front (y ∷ ys) room at next x h = set-front ys (set room next y) at (suc next) x (omega arith) ∙ rw (set-comm room next at y x (λ e. omega arith))
+
+sets-behind : (xs ys room : List ℕ) (at next : ℕ) → next ≡ at + length xs → sets (sets room next ys) at xs ≡ sets room at (xs ++ ys)
+sets-behind [] ys room at next e = let z : next ≡ at = omega arith in rw z
+sets-behind (x ∷ xs) ys room at next e = rw (set-front ys room at next x (omega arith)) (sets-behind xs ys (set room at x) (suc at) next (omega arith))
 
 module _ (words : List ℕ) (list : ℕ) (arena : Arena words list) (z : list ≡ 0 → ⊥) where
   at-first : 2048 + 4 * (list - 1) ≡ 2044 + 4 * list
   at-first = omega arith
 
-  at-second : 2049 + 4 * (list - 1) ≡ 2044 + 4 * list + 1
+  at-second : 2050 + 4 * (list - 1) ≡ 2044 + 4 * list + 2
   at-second = omega arith
 
   back : list - 1 + 1 ≡ list
@@ -50,6 +51,9 @@ module _ (words : List ℕ) (list : ℕ) (arena : Arena words list) (z : list �
     pub second-below : second words list < list
     second-below = let h : second words list ≤ list - 1 = rw at-second at (arena .second (list - 1) (omega arith)) m in omega arith
 
+    pub second-arena : Arena words (second words list)
+    second-arena = arena-less words list (second words list) (omega (arith, second-below)) arena
+
     is-join : treesAt words list ≡ treesAt words (first words list) ⋈ treesAt words (second words list)
     is-join = rw (back, at-first, at-second) at (trees-join words list (list - 1) arena (omega arith)) m
 
@@ -60,16 +64,8 @@ module _ (words : List ℕ) (list : ℕ) (arena : Arena words list) (z : list �
         ≡ recordSize width * recordsOf (treesAt words (first words list)) + recordSize width * recordsOf (treesAt words (second words list))
     bytes-both width = ap (λ (n : ℕ). recordSize width * n) records-both ∙ mul-add (recordSize width) _ _
 
-    pub join-wrote : (room mid new : List ℕ) (width at next end : ℕ) → Wrote room mid width at next (treesAt words (first words list))
-        → Wrote mid new width next end (treesAt words (second words list))
-        → Wrote room new width at end (treesAt words list)
-    join-wrote room mid new width at next end f s =
-        let l = length-trees width (treesAt words (first words list)) in
-        let b = bytes-both width in
-        let xs = treesBytes width (treesAt words (first words list)) in
-        let ys = treesBytes width (treesAt words (second words list)) in
-        let e : new ≡ sets room at (xs ++ ys) = sets-on room at next xs ys mid new (omega (arith, f .0)) (f .1) (s .1) in
-        (omega (arith, f .0, s .0), rw is-join (rw (bytes-join width (treesAt words (first words list)) (treesAt words (second words list))) e))
+    join-bytes : (width : ℕ) → treesBytes width (treesAt words list) ≡ treesBytes width (treesAt words (first words list)) ++ treesBytes width (treesAt words (second words list))
+    join-bytes width = ap (treesBytes width) is-join ∙ bytes-join width (treesAt words (first words list)) (treesAt words (second words list))
 
   -- A tree: the records of its children, then its own.
   module _ (m : mark ≤ second words list) where
@@ -82,77 +78,95 @@ module _ (words : List ℕ) (list : ℕ) (arena : Arena words list) (z : list �
     pub bytes-one : (width : ℕ) → recordSize width * recordsOf (treesAt words list) ≡ recordSize width + recordSize width * recordsOf (treesAt words (first words list))
     bytes-one width = ap (λ (n : ℕ). recordSize width * n) records-one ∙ mul-add (recordSize width) 1 _ ∙ rw (mul-one (recordSize width))
 
-    pub tree-wrote : (room mid new : List ℕ) (width at next end n : ℕ) → recordsOf (treesAt words list) ≤ 1000 → n ≡ saturated (numberOf (treesAt words (first words list)))
-        → Wrote room mid width at next (treesAt words (first words list)) → end ≡ next + recordSize width
-        → new ≡ sets mid next (recordBytes width (second words list / 16777216 % 64) (second words list / 4096 % 4096) (second words list % 4096) n)
-        → Wrote room new width at end (treesAt words list)
+    tree-bytes : (width : ℕ) → treesBytes width (treesAt words list) ≡ treesBytes width (treesAt words (first words list))
+        ++ recordBytes width (second words list / 16777216 % 64) (second words list / 4096 % 4096) (second words list % 4096) (numberOf (treesAt words (first words list)))
     unfolding treesBytes
-    tree-wrote room mid new width at next end n few en f ee e =
-        let l = length-trees width (treesAt words (first words list)) in
-        let b = bytes-one width in
-        let r = records-one in
-        let c = number-few (treesAt words (first words list)) in
-        let n′ : n ≡ numberOf (treesAt words (first words list)) = omega arith in
-        let xs = treesBytes width (treesAt words (first words list)) in
-        let ys = recordBytes width (second words list / 16777216 % 64) (second words list / 4096 % 4096) (second words list % 4096) (numberOf (treesAt words (first words list))) in
-        let e′ : new ≡ sets room at (xs ++ ys) = sets-on room at next xs ys mid new (omega (arith, f .0)) (f .1) (rw n′ at e) in
-        (omega (arith, f .0), rw is-tree (rw (append-nil ys) e′))
+    tree-bytes width = rw is-tree (rw (append-nil (recordBytes width (second words list / 16777216 % 64) (second words list / 4096 % 4096) (second words list % 4096) (numberOf (treesAt words (first words list))))))
 
-  -- Whichever it is, the first list has no more records.
-  pub records-first : recordsOf (treesAt words (first words list)) ≤ recordsOf (treesAt words list)
-  records-first = by (ltb (second words list) mark) refl
-    where
-      by : (b : Bool) → ltb (second words list) mark ≡ b → recordsOf (treesAt words (first words list)) ≤ recordsOf (treesAt words list)
-      by true e = omega (arith, records-both (ltb-true _ _ e))
-      by false e = omega (arith, records-one (ltb-false _ _ e))
-
-  pub bytes-first : (width : ℕ) → recordSize width * recordsOf (treesAt words (first words list)) ≤ recordSize width * recordsOf (treesAt words list)
-  bytes-first width = mul-le-mul-left (recordSize width) records-first
-
--- Along a list: what is left to write at a place gives what the whole list gives from its own.
-pub record Along (words room₀ room : List ℕ) (width list at rest to : ℕ) : Type 0 where
+-- Along a list, from its end to its front: what is left to write, from where the whole starts as far as a place, gives the whole.
+pub record Along (words room₀ room : List ℕ) (width list end rest to : ℕ) : Type 0 where
   pub within : rest ≤ list
   pub few : recordsOf (treesAt words rest) ≤ 1000
-  pub place : to + recordSize width * recordsOf (treesAt words rest) ≡ at + recordSize width * recordsOf (treesAt words list)
-  pub same : sets room to (treesBytes width (treesAt words rest)) ≡ sets room₀ at (treesBytes width (treesAt words list))
+  pub long : length room ≡ length room₀
+  pub order : to ≤ end
+  pub start : ℕ
+  pub all : end ≡ start + recordSize width * recordsOf (treesAt words list)
+  pub left : to ≡ start + recordSize width * recordsOf (treesAt words rest)
+  pub same : sets room start (treesBytes width (treesAt words rest)) ≡ sets room₀ start (treesBytes width (treesAt words list))
 
-module _ {words room₀ room : List ℕ} {width list at rest to : ℕ} (along : Along words room₀ room width list at rest to) where
-  whole : (new : List ℕ) (end : ℕ) → Wrote room new width to end (treesAt words rest) → Wrote room₀ new width at end (treesAt words list)
-  whole new end f = (f .0 ∙ along .place, f .1 ∙ along .same)
+pub along-all : (words room : List ℕ) (width list end : ℕ) → recordsOf (treesAt words list) ≤ 1000 → recordSize width * recordsOf (treesAt words list) ≤ end → Along words room room width list end list end
+along-all words room width list end few h = record {
+  within = omega arith;
+  few = few;
+  long = refl;
+  order = omega arith;
+  start = end - recordSize width * recordsOf (treesAt words list);
+  all = omega arith;
+  left = omega arith;
+  same = refl;
+}
 
-  pub along-none : rest ≡ 0 → Wrote room₀ room width at to (treesAt words list)
-  along-none z = whole room to (none-wrote words rest room width to z)
+module _ {words room₀ room : List ℕ} {width list end rest to : ℕ} (along : Along words room₀ room width list end rest to) where
+  pub along-none : rest ≡ 0 → Wrote room₀ room width to end (treesAt words list)
+  unfolding recordsOf treesBytes
+  along-none z =
+      let n : treesAt words rest ≡ no-trees = trees-zero words rest z in
+      let l : to ≡ along .start + recordSize width * 0 = rw n at (along .left) in
+      let e : to ≡ along .start = omega (arith, mul-zero (recordSize width)) in
+      let s : room ≡ sets room₀ (along .start) (treesBytes width (treesAt words list)) = rw n at (along .same) in
+      rw e (along .all, s)
 
   module _ (arena : Arena words list) (z : rest ≡ 0 → ⊥) where
     pub here : Arena words rest
     here = arena-less words list rest (along .within) arena
 
-    pub along-tree : (m : mark ≤ second words rest) (mid new : List ℕ) (next end n : ℕ) → n ≡ saturated (numberOf (treesAt words (first words rest)))
-        → Wrote room mid width to next (treesAt words (first words rest)) → end ≡ next + recordSize width
-        → new ≡ sets mid next (recordBytes width (second words rest / 16777216 % 64) (second words rest / 4096 % 4096) (second words rest % 4096) n)
-        → Wrote room₀ new width at end (treesAt words list)
-    along-tree m mid new next end n en f ee e = whole new end (tree-wrote words rest here z m room mid new width to next end n (along .few) en f ee e)
+    -- What stands behind the first list is written: the first list is left.
+    step : (xs mid : List ℕ) (next : ℕ) → treesBytes width (treesAt words rest) ≡ treesBytes width (treesAt words (first words rest)) ++ xs → mid ≡ sets room next xs
+        → recordsOf (treesAt words (first words rest)) ≤ 1000 → next ≤ to → next ≡ along .start + recordSize width * recordsOf (treesAt words (first words rest))
+        → Along words room₀ mid width list end (first words rest) next
+    step xs mid next b e few h en =
+        let l = length-trees width (treesAt words (first words rest)) in
+        let f = treesBytes width (treesAt words (first words rest)) in
+        let s : sets mid (along .start) f ≡ sets room (along .start) (treesBytes width (treesAt words rest)) = rw (e, b) (sets-behind f xs room (along .start) next (omega arith)) in
+        record {
+          within = omega (arith, along .within, first-below words rest here z);
+          few = few;
+          long = rw e (length-sets room next xs ∙ along .long);
+          order = omega (arith, along .order);
+          start = along .start;
+          all = along .all;
+          left = en;
+          same = s ∙ along .same;
+        }
 
-    pub along-join : (m : second words rest < mark) (mid : List ℕ) (next : ℕ) → Wrote room mid width to next (treesAt words (first words rest))
-        → Along words room₀ mid width list at (second words rest) next
-    along-join m mid next f =
-        let l = second-below words rest here z m in
+    pub along-tree : (m : mark ≤ second words rest) (mid : List ℕ) (next n : ℕ) → n ≡ saturated (numberOf (treesAt words (first words rest))) → to ≡ next + recordSize width
+        → mid ≡ sets room next (recordBytes width (second words rest / 16777216 % 64) (second words rest / 4096 % 4096) (second words rest % 4096) n)
+        → Along words room₀ mid width list end (first words rest) next
+    along-tree m mid next n en et e =
+        let r = records-one words rest here z m in
+        let c = number-few (treesAt words (first words rest)) in
+        let n′ : n ≡ numberOf (treesAt words (first words rest)) = omega (arith, along .few) in
+        step _ mid next (tree-bytes words rest here z m width) (rw n′ at e) (omega (arith, along .few)) (omega arith) (omega (arith, along .left, bytes-one words rest here z m width))
+
+    pub along-join : (m : second words rest < mark) (mid : List ℕ) (next : ℕ) → Wrote room mid width next to (treesAt words (second words rest))
+        → Along words room₀ mid width list end (first words rest) next
+    along-join m mid next w =
         let r = records-both words rest here z m in
-        let b = bytes-both words rest here z m width in
-        let ys = treesBytes width (treesAt words (second words rest)) in
-        let e : sets mid next ys ≡ sets room to (treesBytes width (treesAt words rest)) =
-        join-wrote words rest here z m room mid (sets mid next ys) width to next (next + recordSize width * recordsOf (treesAt words (second words rest))) f (refl, refl) .1 in
-        record { within = omega arith; few = omega arith; place = omega (arith, f .0); same = e ∙ along .same }
+        step _ mid next (join-bytes words rest here z m width) (w .1) (omega (arith, along .few)) (omega (arith, w .0)) (omega (arith, w .0, along .left, bytes-both words rest here z m width))
+
+-- Of few records the count is right, and so is the end that is taken from it.
+pub end-is : (width n : ℕ) (ts : Trees) → recordsOf ts ≤ 1000 → n ≡ saturated (recordsOf ts) → storedLength width n ≡ storedLength width (recordsOf ts)
+end-is width n ts few e = let n′ : n ≡ recordsOf ts = omega arith in rw n′
 
 -- The whole stored reading: the head, then the records.
-pub all-wrote : (room r₁ r₂ : List ℕ) (width n end : ℕ) (ts : Trees) → recordsOf ts ≤ 1000 → storedLength width (recordsOf ts) ≤ length room
-    → n ≡ saturated (recordsOf ts) → r₁ ≡ sets room 0 (headBytes width n) → Wrote r₁ r₂ width 5 end ts → r₂ ≡ withStored room width ts
+pub all-wrote : (room r₁ r₂ : List ℕ) (width n at : ℕ) (ts : Trees) → recordsOf ts ≤ 1000 → storedLength width (recordsOf ts) ≤ length room
+    → n ≡ saturated (recordsOf ts) → r₁ ≡ sets room 0 (headBytes width n) → Wrote r₁ r₂ width at (storedLength width n) ts → r₂ ≡ withStored room width ts
 unfolding storedOf
-all-wrote room r₁ r₂ width n end ts few fits en e₁ w₂ =
+all-wrote room r₁ r₂ width n at ts few fits en e₁ w₂ =
     let h = headBytes width (recordsOf ts) in
     let xs = treesBytes width ts in
     let n′ : n ≡ recordsOf ts = omega arith in
     let lh : length h ≡ 5 = length-head width (recordsOf ts) in
-    let s : r₂ ≡ sets room 0 (h ++ xs) = sets-on room 0 5 h xs r₁ r₂ (omega arith) (rw n′ at e₁) (w₂ .1) in
+    let s : r₂ ≡ sets room 0 (h ++ xs) = sets-on room 0 at h xs r₁ r₂ (omega (arith, w₂ .0, end-is width n ts few en)) (rw n′ at e₁) (w₂ .1) in
     let l : length (h ++ xs) ≡ storedLength width (recordsOf ts) = length-stored width ts in
     s ∙ sets-front room (h ++ xs) (omega arith) ∙ rw l

@@ -11,7 +11,7 @@ use Rattle.cells.specs.Cells.{mark, saturated, treesAt, recordsWord, tre
 pub record Arena (words : List ℕ) (top : ℕ) : Type 0 where
   pub long : 2048 + 4 * top ≤ length words
   pub first : (k : ℕ) → k < top → getD words (2048 + 4 * k) 0 ≤ k
-  pub second : (k : ℕ) → k < top → getD words (2049 + 4 * k) 0 < mark → getD words (2049 + 4 * k) 0 ≤ k
+  pub second : (k : ℕ) → k < top → getD words (2050 + 4 * k) 0 < mark → getD words (2050 + 4 * k) 0 ≤ k
   pub records : (list : ℕ) → list ≤ top → recordsWord words list ≡ saturated (recordsOf (treesAt words list))
   pub trees : (list : ℕ) → list ≤ top → treesWord words list ≡ saturated (numberOf (treesAt words list))
 

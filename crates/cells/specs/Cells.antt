@@ -1,4 +1,5 @@
--- Trees in the lent working numbers: cells of four words, cell k from word 2048 + 4k on. A list of trees is 0, or 1 + its cell.
+-- Trees in the lent working numbers: cells of four words, cell k from word 2048 + 4k on: first, records, second, trees. A list of trees is 0, or 1 + its cell.
+-- The two counts are no neighbours: the compiler would read them as one, and the processor stalls where two words just written are read back as one.
 use mathlib.Core.Bool.{cond}
 use mathlib.Core.List.{List, [], _∷_, _++_}
 use mathlib.Core.Path.{_≡_}
@@ -13,7 +14,7 @@ use Rattle.stored.specs.Stored.{recordsOf, recordSize, treesBytes}
 abbrev pub saturated : ℕ → ℕ
 saturated n = min n 1001
 
--- The second word of a tree's cell is at least this; that of a join's is below.
+-- The second of a tree's cell is at least this; that of a join's is below.
 abbrev pub mark : ℕ
 mark = 1073741824
 
@@ -21,29 +22,29 @@ mark = 1073741824
 abbrev pub packed : ℕ → ℕ → ℕ → ℕ
 packed a x e = mark + a * 16777216 + x * 4096 + e
 
--- A cell by its first two words, over the lists below it: one tree, by its children and what is packed; or two lists joined.
+-- A cell by its first and second, over the lists below it: one tree, by its children and what is packed; or two lists joined.
 unfoldable pub cellTrees : ℕ → ℕ → List Trees → Trees
 cellTrees f s below = cond (ltb s mark) (getD below f no-trees ⋈ getD below s no-trees) (tree (s / 16777216 % 64) (s / 4096 % 4096) (s % 4096) (getD below f no-trees) no-trees)
 
 -- The trees of the lists 0 to k.
 unfoldable pub lists : List ℕ → ℕ → List Trees
 lists words zero = no-trees ∷ []
-lists words (suc k) = let below = lists words k in below ++ (cellTrees (getD words (2048 + 4 * k) 0) (getD words (2049 + 4 * k) 0) below ∷ [])
+lists words (suc k) = let below = lists words k in below ++ (cellTrees (getD words (2048 + 4 * k) 0) (getD words (2050 + 4 * k) 0) below ∷ [])
 
 -- The trees that a list stands for.
 unfoldable pub treesAt : List ℕ → ℕ → Trees
 treesAt words list = getD (lists words list) list no-trees
 
--- The saturated counts of a list: its records, and its trees. Words 2046 and 2047 are those of list 0.
+-- The saturated counts of a list: its records, and its trees. Words 2045 and 2047 are those of list 0.
 abbrev pub recordsWord : List ℕ → ℕ → ℕ
-recordsWord words list = getD words (2046 + 4 * list) 0
+recordsWord words list = getD words (2045 + 4 * list) 0
 
 abbrev pub treesWord : List ℕ → ℕ → ℕ
 treesWord words list = getD words (2047 + 4 * list) 0
 
--- Cell k written: two words, its records, its trees.
+-- Cell k written: its first, its records, its second, its trees.
 unfoldable pub withCell : List ℕ → ℕ → ℕ → ℕ → ℕ → ℕ → List ℕ
-withCell words k f s records trees = sets words (2048 + 4 * k) (f ∷ s ∷ records ∷ trees ∷ [])
+withCell words k f s records trees = sets words (2048 + 4 * k) (f ∷ records ∷ s ∷ trees ∷ [])
 
 -- One tree written as cell k.
 abbrev pub withTree : List ℕ → ℕ → ℕ → ℕ → ℕ → ℕ → List ℕ

@@ -2,9 +2,9 @@
 //
 // Cells of four words stand from word 2048 on and are only added. A list of trees is a number: 0 for none, or 1 + its cell. A cell is one
 // tree over the list of its children, or two lists joined, and holds how many records and how many trees its list has, both at most
-// 1,001: joined twice, a list doubles, so a plain count would not fit. Words 2046 and 2047 hold the two counts of list 0.
+// 1,001: joined twice, a list doubles, so a plain count would not fit. Words 2045 and 2047 hold the two counts of list 0.
 // specs/Cells says which trees a list stands for, as a function of the words; specs/Arena what is kept true (Arena) and what making a list
-// leaves (Made). proofs/Frame has the laws that a caller cites: what is written below word 2046 or above the cells keeps every list, and so
+// leaves (Made). proofs/Frame has the laws that a caller cites: what is written below word 2045 or above the cells keeps every list, and so
 // does every cell that is added.
 
 ghost use mathlib.Core.Path.{_≡_};
@@ -26,9 +26,10 @@ pub struct Held {
 // Makes ready for the first cell: list 0 has no records and no trees.
 pub fn no_cells(work: &mut [u32])
     requires { ⌜ 2048 ≤ length (now work) ⌝ }
-    ensures words { λ _. ⌜ now (work .exit) ≡ sets (now (work .entry)) 2046 (0 ∷ 0 ∷ []) ⌝ }
+    ensures words { λ _. ⌜ now (work .exit) ≡ sets (now (work .entry)) 2045 (0 ∷ 0 ∷ 0 ∷ []) ⌝ }
     ensures arena { λ _. ⌜ Arena (now (work .exit)) 0 ⌝ }
 {
+    work[2045] = 0;
     work[2046] = 0;
     work[2047] = 0;
 }
@@ -50,8 +51,8 @@ fn put_cell(work: &mut [u32], top: u32, first: u32, second: u32, records: u32, t
 {
     let at = 2048 + 4 * top as usize;
     work[at] = first;
-    work[at + 1] = second;
-    work[at + 2] = records;
+    work[at + 1] = records;
+    work[at + 2] = second;
     work[at + 3] = trees;
 }
 
@@ -60,7 +61,7 @@ pub fn records_of(work: &[u32], list: u32) -> u32
     requires { ⌜ Arena (now work) list ⌝ }
     ensures { λ r. ⌜ r ≡ saturated (recordsOf (treesAt (now (work .entry)) list)) ⌝ }
 {
-    work[2046 + 4 * list as usize]
+    work[2045 + 4 * list as usize]
 }
 
 // How many trees a list has, at most 1,001.
@@ -79,7 +80,7 @@ pub fn put_tree(work: &mut [u32], top: u32, rule: u32, start: u32, end: u32, chi
     ensures words { λ _. ⌜ now (work .exit) ≡ withTree (now (work .entry)) top rule start end children ⌝ }
     ensures made { λ _. ⌜ Made (now (work .entry)) (now (work .exit)) top (top + 1) (top + 1) (tree rule start end (treesAt (now (work .entry)) children) no-trees) ⌝ }
 {
-    let records = saturate(work[2046 + 4 * children as usize] + 1);
+    let records = saturate(work[2045 + 4 * children as usize] + 1);
     put_cell(
         work,
         top,
@@ -96,7 +97,7 @@ fn put_join(work: &mut [u32], top: u32, left: u32, right: u32)
     requires room { ⌜ (2048 + 4 * top + 3 < length (now work)) × (top < 1073741823) ⌝ }
     ensures { λ _. ⌜ now (work .exit) ≡ withJoin (now (work .entry)) top left right ⌝ }
 {
-    let records = saturate(work[2046 + 4 * left as usize] + work[2046 + 4 * right as usize]);
+    let records = saturate(work[2045 + 4 * left as usize] + work[2045 + 4 * right as usize]);
     let trees = saturate(work[2047 + 4 * left as usize] + work[2047 + 4 * right as usize]);
     put_cell(work, top, left, right, records, trees);
 }
@@ -121,37 +122,36 @@ pub fn join(work: &mut [u32], top: u32, left: u32, right: u32) -> Held
     }
 }
 
-// Writes the records of a list of trees from at on, and says where they end. It calls itself for a cell's first list only, so no deeper than there are records.
-fn write_trees(work: &[u32], room: &mut [u8], width: usize, list: u32, at: usize) -> usize
+// Writes the records of a list of trees so that they end at `end`, and says where they start. From the last to the first: it calls itself for
+// the second of two joined lists only, so a tree that leans to the left takes no depth, and none goes deeper than there are records.
+fn write_trees(work: &[u32], room: &mut [u8], width: usize, list: u32, end: usize) -> usize
     requires arena { ⌜ Arena (now work) list ⌝ }
     requires few { ⌜ (recordsOf (treesAt (now work) list) ≤ 1000) × ((0 < width) × (width ≤ 2)) ⌝ }
-    requires fits { ⌜ at + recordSize width * recordsOf (treesAt (now work) list) ≤ length (now room) ⌝ }
-    ensures { λ r. ⌜ Wrote (now (room .entry)) (now (room .exit)) width at r (treesAt (now (work .entry)) list) ⌝ }
+    requires fits { ⌜ (recordSize width * recordsOf (treesAt (now work) list) ≤ end) × (end ≤ length (now room)) ⌝ }
+    ensures { λ r. ⌜ Wrote (now (room .entry)) (now (room .exit)) width r end (treesAt (now (work .entry)) list) ⌝ }
 {
     let mut rest = list;
-    let mut to = at;
+    let mut to = end;
     while rest != 0 {
         let cell = 2044 + 4 * rest as usize;
         let first = work[cell];
-        let second = work[cell + 1];
-        let mut next = to;
-        if first != 0 {
-            next = write_trees(work, room, width, first, to);
-        }
+        let second = work[cell + 2];
         if 1073741824 <= second {
             let number = trees_of(work, first);
-            return stored::put_record(
+            to -= 3 + 2 * width;
+            stored::put_record(
                 room,
                 width,
-                next,
+                to,
                 second / 16777216 % 64,
                 second / 4096 % 4096,
                 second % 4096,
                 number,
             );
+        } else {
+            to = write_trees(work, room, width, second, to);
         }
-        rest = second;
-        to = next;
+        rest = first;
     }
     to
 }
@@ -163,6 +163,8 @@ pub fn write(work: &[u32], room: &mut [u8], width: usize, list: u32)
     requires fits { ⌜ storedLength width (recordsOf (treesAt (now work) list)) ≤ length (now room) ⌝ }
     ensures { λ _. ⌜ now (room .exit) ≡ withStored (now (room .entry)) width (treesAt (now (work .entry)) list) ⌝ }
 {
-    stored::put_head(room, width, records_of(work, list));
-    write_trees(work, room, width, list, 5);
+    let records = records_of(work, list);
+    stored::put_head(room, width, records);
+    let end = 5 + (3 + 2 * width) * records as usize;
+    write_trees(work, room, width, list, end);
 }

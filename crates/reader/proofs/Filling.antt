@@ -9,9 +9,6 @@ use lib.ListN.{length, getD, set, length-set}
 use lib.Seq.{getD-set-same, getD-set-other}
 use lib.Dec.{eqb}
 use borrow.Author.Tests.{eqb-true, eqb-false}
-use Rattle.sheet.specs.Table.{nodesOf, mostNodes}
-use Rattle.sheet.specs.Check.{Accepted}
-use Rattle.sheet.proofs.Accepting.{well-formed}
 use Rattle.reader.specs.Steps.{Filled}
 
 pub fill-none : (w : List ℕ) (from : ℕ) (f : ℕ → ℕ) → Filled w w from from f
@@ -33,6 +30,3 @@ module _ {old new : List ℕ} {from to : ℕ} {f : ℕ → ℕ} (h : Filled old 
 -- The same up to an end that is said otherwise.
 pub exactly : {old new : List ℕ} {from to end : ℕ} {f : ℕ → ℕ} → Filled old new from to f → to ≡ end → Filled old new from end f
 exactly {old} {new} {from} {to} {end} {f} h e = subst (λ k. Filled old new from k f) e h
-
-pub few-nodes : (t : List ℕ) → Accepted t → nodesOf t ≤ mostNodes
-few-nodes t a = well-formed t a .few-nodes

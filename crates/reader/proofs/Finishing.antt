@@ -1,28 +1,38 @@
 -- What comes back, return by return, however the run ended.
-use mathlib.Core.Path.{_≡_, refl, sym, ap, subst, _∙_}
+use mathlib.Core.Path.{_≡_, refl, ap, _∙_}
 use mathlib.Core.Logic.{_≢_}
-use mathlib.Core.Bool.{Bool, true, false, _&&_, cond}
-use mathlib.Core.List.{List, _++_}
-use Prim.Native.Nat.{ℕ, _+_, _-_, _*_, _/_, _%_, _<_, _≤_}
+use mathlib.Core.Bool.{Bool, true, false, _&&_}
+use mathlib.Core.List.{List}
+use Prim.Native.Nat.{ℕ, _-_, _/_, _%_, _<_, _≤_}
 use native.Mathlib.Omega.{arith}
-use lib.ListN.{length, drop}
+use lib.ListN.{length}
 use lib.Dec.{ltb}
 use borrow.Author.Tests.{lt-ltb, le-ltb}
 use Rattle.meaning.specs.Grammar.{Trees, fail, ok}
-use Rattle.meaning.specs.Reading.{State, Run, effort, deep, done}
-use Rattle.stored.specs.Stored.{recordsOf, storedLength, storedOf, withStored}
+use Rattle.meaning.specs.Reading.{effort, deep, done}
+use Rattle.stored.specs.Stored.{recordsOf, storedLength, withStored}
 use Rattle.cells.specs.Cells.{saturated, treesAt}
-use Rattle.visits.specs.declared.Visited.{Visited}
-use Rattle.visits.specs.Says.{FAILED, STOPPED}
+use Rattle.cells.specs.Arena.{Arena}
+use Rattle.cells.proofs.Frame.{arena-less}
+use Rattle.visits.specs.Says.{FAILED, STOPPED, Visited}
 use Rattle.reader.specs.declared.Reading.{Reading}
-use Rattle.reader.specs.Answer.{FAIL, REST, RECORDS, ROOM, mostRecords, positionWidth, numbers, matchOutcome, runOutcome, Leaves}
-use Rattle.reader.specs.Steps.{Tells, Finishable, Finished}
+use Rattle.reader.specs.Answer.{FAIL, REST, RECORDS, ROOM, numbers, matchOutcome, runOutcome, Leaves}
+use Rattle.reader.specs.Steps.{Finishable, Finished}
 
 same-numbers : {c c′ p p′ m m′ v v′ r r′ : ℕ} → c ≡ c′ → p ≡ p′ → m ≡ m′ → v ≡ v′ → r ≡ r′ → numbers c p m v r ≡ numbers c′ p′ m′ v′ r′
 same-numbers a b c d e = rw (a, b, c, d, e) refl
 
-module _ (whole : Bool) (long : ℕ) (w : List ℕ) (v : Visited) (room : List ℕ) (f : Finishable long w v) (short : long ≤ 255) where
-  pub by-refusal : v .end ≡ STOPPED → Finished whole long w v (numbers (v .list / 4096) (v .list % 4096) 0 (v .made) 0) room room
+-- A result that neither stopped nor failed is a match, and its list is in order.
+module _ {long : ℕ} {w : List ℕ} {v : Visited} (f : Finishable long w v) (end : ℕ) (end-is : end ≡ v .end) (runs : end ≢ STOPPED) (fits : end ≢ FAILED) where
+  pub matched : end < STOPPED
+  matched = let m = f .end-most in omega arith
+
+  pub arena-of : (list : ℕ) → list ≡ v .list → Arena w list
+  arena-of list e = let m = f .end-most in let l = f .list-in (omega arith) in arena-less w (v .top) list (omega arith) (f .arena)
+
+-- The end, the list and the visits made are those of the result.
+module _ (whole : Bool) (long : ℕ) (w : List ℕ) (v : Visited) (room : List ℕ) (short : long ≤ 255) (end list made : ℕ) (end-is : end ≡ v .end) (list-is : list ≡ v .list) (made-is : made ≡ v .made) where
+  pub by-refusal : end ≡ STOPPED → Finished whole long w v (numbers (list / 4096) (list % 4096) 0 made 0) room room
   unfolding runOutcome
   by-refusal e allowance (effort p s) work h =
       let l = h .list in
@@ -37,7 +47,7 @@ module _ (whole : Bool) (long : ℕ) (w : List ℕ) (v : Visited) (room : List �
   by-refusal e allowance (done fail s) work h = let q = h .at in absurd (omega arith)
   by-refusal e allowance (done (ok y ts) s) work h = let q = h .2 .at in let i = h .1 in absurd (omega arith)
 
-  pub by-failure : v .end ≡ FAILED → Finished whole long w v (numbers FAIL 0 0 (v .made) 0) room room
+  pub by-failure : end ≡ FAILED → Finished whole long w v (numbers FAIL 0 0 made 0) room room
   unfolding runOutcome
   by-failure e allowance (effort p s) work h = let q = h .end in absurd (omega arith)
   by-failure e allowance (deep p s) work h = let q = h .end in absurd (omega arith)
@@ -45,8 +55,7 @@ module _ (whole : Bool) (long : ℕ) (w : List ℕ) (v : Visited) (room : List �
   by-failure e allowance (done (ok y ts) s) work h = let q = h .2 .at in let i = h .1 in absurd (omega arith)
 
   -- A match: what comes back is by its end, its trees and the visits made.
-  module _ (lt : v .end < STOPPED) (r : Reading) (new : List ℕ)
-      (k : (work : List ℕ) → Leaves (matchOutcome whole long (v .end) (treesAt w (v .list)) (v .made) work room) r work new) where
+  module _ (lt : end < STOPPED) (r : Reading) (new : List ℕ) (k : (work : List ℕ) → Leaves (matchOutcome whole long end (treesAt w list) made work room) r work new) where
     pub by-match : Finished whole long w v r room new
     unfolding runOutcome
     by-match allowance (effort p s) work h = let q = h .end in absurd (omega arith)
@@ -54,8 +63,10 @@ module _ (whole : Bool) (long : ℕ) (w : List ℕ) (v : Visited) (room : List �
     by-match allowance (done fail s) work h = let q = h .at in absurd (omega arith)
     by-match allowance (done (ok y ts) s) work h =
         let q = h .2 .left in
-        let e : v .made ≡ allowance - s .left = omega arith in
-        rw (← h .2 .at, ← h .0, ← e) (k work)
+        let e : end ≡ y = end-is ∙ h .2 .at in
+        let t : treesAt w list ≡ ts = ap (treesAt w) list-is ∙ h .0 in
+        let m : made ≡ allowance - s .left = omega arith in
+        rw (← e, ← t, ← m) (k work)
 
 module _ (whole : Bool) (long e : ℕ) (ts : Trees) (visits : ℕ) (work room : List ℕ) where
   pub as-rest : (whole && ltb e long) ≡ true → Leaves (matchOutcome whole long e ts visits work room) (numbers REST e e visits 0) work room

@@ -1,5 +1,4 @@
 pub mod Filling
-pub mod Preparing
 pub mod Starting
 pub mod Finishing
 pub mod Turning

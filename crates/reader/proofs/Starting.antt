@@ -1,122 +1,113 @@
 -- The visits start: the words stand for nothing live and nothing kept, and what the use of rule 0 says is the reading.
-use mathlib.Core.Path.{_≡_, refl, sym, subst, ap, ap₂, _∙_}
+use mathlib.Core.Path.{_≡_, refl, sym, subst, ap, _∙_}
 use mathlib.Core.Bool.{Bool, true}
-use mathlib.Core.List.{List, []}
+use mathlib.Core.List.{List, [], _∷_}
 use Prim.Native.Nat.{ℕ, _+_, _*_, _<_, _≤_}
 use native.Mathlib.Omega.{arith}
-use lib.ListN.{length, getD}
-use Rattle.meaning.specs.Grammar.{fail, ok, Closed, Note, look}
-use Rattle.meaning.specs.Decide.{isFree}
+use lib.ListN.{length, getD, set, length-set}
+use lib.Seq.{getD-set-same, getD-set-other, sets, length-sets}
+use lib.Dec.{ltb}
+use Rattle.meaning.specs.Grammar.{fail, ok, look}
 use Rattle.meaning.specs.Reading.{State, Run, effort, deep, done, visit, useRule, readBy, read}
-use Rattle.sheet.specs.Table.{nodesOf, rulesOf, grammarOf}
-use Rattle.sheet.proofs.Accepting.{well-formed, closed}
-use Rattle.visits.specs.declared.Visited.{Visited}
-use Rattle.visits.specs.Given.{nodesIn, rulesIn, rootIn, keepsIn, baseIn, allowanceIn, pairsIn, roomIn, grammarIn, Fit}
-use Rattle.visits.specs.Words.{placeIn, keptAs, keptAt, Stands, Words}
-use Rattle.visits.specs.Says.{Ready, Says, Came, uses}
+use Rattle.sheet.specs.Table.{nodesOf, rulesOf, nodeAt, grammarOf}
+use Rattle.sheet.proofs.Accepting.{well-formed}
+use Rattle.cells.specs.Arena.{Arena}
+use Rattle.cells.proofs.Frame.{arena-below}
+use Rattle.visits.specs.Given.{Given, lent, nodesIn, rootIn, keepsIn, baseIn, roomIn, Fit}
+use Rattle.visits.specs.Words.{topIn, madeIn, placeIn, keptAs, keptAt, Stands, Words}
+use Rattle.visits.specs.Says.{Visited, Starts, Ends, Says, Came, after-visit, uses}
 use Rattle.visits.proofs.Frame.{pair-in}
 use Rattle.visits.proofs.Ready.{root-in}
 use Rattle.reader.specs.Answer.{workNeeded}
-use Rattle.reader.specs.Steps.{Prepared, Startable, Tells, Visiting}
+use Rattle.reader.specs.Steps.{Startable, Tells, Visiting}
 
 -- The state before the first visit.
 abbrev first : ℕ → State
 first allowance = record { left = allowance; kept = [] }
 
-module _ (table line w given : List ℕ) (allowance : ℕ) (free : Bool) (s : Startable table line w allowance free) (p : Prepared table allowance free given) where
-  room-is : roomIn given line ≡ workNeeded allowance (nodesOf table) (length line)
-  room-is = rw (p .allowed, p .nodes) refl
+pub some-rule : {table line w : List ℕ} {allowance : ℕ} {free : Bool} → Startable table line w allowance free → 0 < rulesOf table
+some-rule {table} s = well-formed table (s .fitting .accepted) .some-rule
+
+-- From the words w₀, with no cell in use and no visit made.
+module _ (table line w₀ w : List ℕ) (allowance flag at : ℕ) (free : Bool) (s : Startable table line w₀ allowance free) (ef : ltb 0 flag ≡ free) (ea : at ≡ nodeAt (rulesOf table) 0) (ew : w ≡ sets w₀ 2042 (0 ∷ 0 ∷ [])) where
+  abbrev given : Given
+  given = lent table (allowance ∷ flag ∷ at ∷ [])
+
+  long : length w ≡ length w₀
+  long = ap length ew ∙ length-sets w₀ 2042 (0 ∷ 0 ∷ [])
+
+  no-cell : topIn w ≡ 0
+  no-cell = let l = s .arena .long in ap topIn ew ∙ getD-set-other (set w₀ 2042 0) 2043 2042 0 0 (omega arith) ∙ getD-set-same w₀ 2042 0 0 (omega arith)
+
+  no-visit : madeIn w ≡ 0
+  no-visit = let l = s .arena .long in ap madeIn ew ∙ getD-set-same (set w₀ 2042 0) 2043 0 0 (omega (arith, length-set w₀ 2042 0))
+
+  above : (i : ℕ) → 2044 ≤ i → getD w i 0 ≡ getD w₀ i 0
+  above i h = ap (λ l. getD l i 0) ew ∙ getD-set-other (set w₀ 2042 0) 2043 i 0 0 (omega arith) ∙ getD-set-other w₀ 2042 i 0 0 (omega arith)
 
   fit : Fit given line
-  fit =
-      let a = s .fitting in
-      let wf = well-formed table (a .accepted) in
-      let n = p .nodes in
-      let r = p .rules in
-      let al = p .allowed in
-      let b = p .base in
-      let l = a .allowed in
-      let fn = wf .few-nodes in
-      let fr = wf .few-rules in
-      record {
-        closed = subst Closed (sym (p .grammar)) (closed table (a .accepted));
-        nodes = omega arith;
-        rules = omega arith;
-        short = a .short;
-        allowance = omega arith;
-        base = omega arith;
-      }
+  fit = record { accepted = s .fitting .accepted; first = ea; short = s .fitting .short; allowance = s .fitting .allowed }
 
   zero-at : keepsIn given ≡ true → (i : ℕ) → baseIn given ≤ i → i < roomIn given line → getD w i 0 ≡ 0
-  zero-at k i a b = let e = p .base in let r = room-is in s .kept (sym (p .keeps) ∙ k) i (omega arith) (omega arith)
+  zero-at k i a b = above i (omega arith) ∙ s .kept (sym ef ∙ k) i a b
 
   words : Words given line w 0 0
   words =
-      let r = room-is in
-      let e = p .base in
-      let al = p .allowed in
-      let l = s .fitting .room in
+      let r = s .fitting .room in
+      let l = long in
       record {
         room = omega arith;
-        arena = s .arena;
+        arena = subst (λ l. Arena l 0) (sym ew) (arena-below w₀ 0 2042 (0 ∷ 0 ∷ []) (omega arith) (s .arena));
         held-lists = λ i h. absurd (omega arith);
         held-ends = λ i h. absurd (omega arith);
         kept-lists = λ k j h. let z = zero-at k (baseIn given + j * 2 + 1) (omega arith) (omega arith) in omega arith;
         kept-ends = λ k j h. let z = zero-at k (baseIn given + j * 2) (omega arith) (omega arith) in omega arith;
       }
 
-  some-rule : 0 < rulesIn given
-  some-rule = let wf = well-formed table (s .fitting .accepted) .some-rule in let r = p .rules in omega arith
-
-  pub ready : Ready given line w 512 0 0 0 (rootIn given 0) 0
-  ready = record {
+  pub ready : Starts given line w 512 (rootIn given 0) 0
+  ready = rw (no-visit, no-cell) (record {
     fit = fit;
     words = words;
-    node-in = root-in given line fit 0 some-rule;
+    node-in = root-in given line fit 0 (some-rule s);
     pos-in = omega arith;
     open-in = omega arith;
     made-in = omega arith;
     top-in = omega arith;
-  }
-
-  pub rule-known : 0 < rulesIn given
-  rule-known = some-rule
+  })
 
   none-kept : keepsIn given ≡ true → (i x : ℕ) → i < nodesIn given → x ≤ length line → look [] i x ≡ keptAt w (placeIn given line i x)
   unfolding look keptAs
   none-kept k i x li lx =
-      let z : getD w (placeIn given line i x) 0 ≡ 0 = zero-at k _ (omega arith) (let q = pair-in given line i x li lx in let e = p .base in let al = p .allowed in omega arith) in
+      let z : getD w (placeIn given line i x) 0 ≡ 0 = zero-at k _ (omega arith) (let q = pair-in given line i x li lx in omega arith) in
       rw z refl
 
   stands : Stands given line w 0 0 [] (first allowance)
-  stands = record { lives = refl; left = let al = p .allowed in omega arith; kept = none-kept }
+  stands = record { lives = refl; left = omega arith; kept = none-kept }
 
   -- The use of rule 0 is 01's reading.
   run-is : uses given line 512 [] 0 0 (first allowance) ≡ read (grammarOf table) line allowance
   unfolding read readBy
-  run-is =
-      ap₂ (λ g b. useRule g line b (visit g line b 512) [] 0 0 (first allowance)) (p .grammar) (p .keeps ∙ s .free-is)
+  run-is = ap (λ b. useRule (grammarOf table) line b (visit (grammarOf table) line b 512) [] 0 0 (first allowance)) (ef ∙ s .free-is)
 
-  module _ {w′ : List ℕ} {v : Visited} (c : Came given line w w′ 0 0 0 v (λ l t. uses given line 512 l 0 0 t)) where
-    told : (m : Run) → Says given line w′ 0 [] v m → Tells allowance (length line) w′ v m
-    told (effort q t) h = let al = p .allowed in let l = h .left in record { end = h .end; list = h .list; small = h .small; left = omega arith }
-    told (deep q t) h = let al = p .allowed in let l = h .left in record { end = h .end; list = h .list; small = h .small; left = omega arith }
-    told (done fail t) h = let al = p .allowed in let l = h .stands .left in record { at = h .end; left = omega arith }
-    told (done (ok e ts) t) h = let al = p .allowed in let l = h .1 .stands .left in (h .0, h .1 .inside, record { at = h .1 .end; left = omega arith })
+  told : (w′ : List ℕ) (v : Visited) (m : Run) → Says given line w′ 0 [] v m → Tells allowance (length line) w′ v m
+  told w′ v (effort q t) h = record { end = h .end; list = h .list; small = h .small; left = h .left }
+  told w′ v (deep q t) h = record { end = h .end; list = h .list; small = h .small; left = h .left }
+  told w′ v (done fail t) h = record { at = h .end; left = h .stands .left }
+  told w′ v (done (ok e ts) t) h = (h .0, h .1 .inside, record { at = h .1 .end; left = h .1 .stands .left })
 
-    pub tells : Tells allowance (length line) w′ v (read (grammarOf table) line allowance)
-    tells = subst (Tells allowance (length line) w′ v) run-is (told (uses given line 512 [] 0 0 (first allowance)) (c .says [] (first allowance) stands))
+  module _ (w′ : List ℕ) (r : ℕ) (e : Ends given line w w′ 512 r (λ l t. uses given line 512 l 0 0 t)) where
+    came : Came given line w w′ 0 0 0 (after-visit r w′) (λ l t. uses given line 512 l 0 0 t)
+    came = rw (no-visit, no-cell) at e .came
 
-    pub visiting : Visiting allowance (length line) (workNeeded allowance (nodesOf table) (length line)) w w′ v
-    visiting =
-        let r = room-is in
-        let al = p .allowed in
-        let m = c .made-in in
-        record {
-          arena = c .words .arena;
-          end-most = c .end-most;
-          end-in = c .end-in;
-          list-in = c .list-in;
-          made-in = omega arith;
-          past = λ i h. c .same .past i (omega arith);
-        }
+    pub tells : Tells allowance (length line) w′ (after-visit r w′) (read (grammarOf table) line allowance)
+    tells = subst (Tells allowance (length line) w′ (after-visit r w′)) run-is (told w′ (after-visit r w′) (uses given line 512 [] 0 0 (first allowance)) (came .says [] (first allowance) stands))
+
+    pub visiting : Visiting allowance (length line) (workNeeded allowance (nodesOf table) (length line)) w₀ w′ (after-visit r w′)
+    visiting = record {
+      arena = came .words .arena;
+      end-most = came .end-most;
+      end-in = came .end-in;
+      list-in = came .list-in;
+      made-in = came .made-in;
+      past = λ i h. came .same .past i h ∙ above i (omega arith);
+    }

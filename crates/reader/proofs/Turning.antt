@@ -59,12 +59,16 @@ module _ (whole : Bool) (table line : List ℕ) (allowance : ℕ) (work room : L
 -- The words of a reading, from the first to the last: looked at for the report, kept answers cleared, made ready for cells, visited, cleared.
 module _ (table line : List ℕ) (allowance from needed : ℕ) (free : Bool) (w₀ w₁ w₂ w₃ : List ℕ) (f : Fitting table line w₀ allowance) (is : needed ≡ workNeeded allowance (nodesOf table) (length line))
     (l₁ : length w₁ ≡ length w₀) (rest : (i : ℕ) → 3 * nodesOf table ≤ i → getD w₁ i 0 ≡ getD w₀ i 0) (ef : from ≡ cond free (2048 + 4 * allowance) needed)
-    (c₂ : Filled w₁ w₂ from needed (λ i. 0)) (e₃ : w₃ ≡ sets w₂ 2046 (0 ∷ 0 ∷ [])) where
+    (c₂ : Filled w₁ w₂ from needed (λ i. 0)) (e₃ : w₃ ≡ sets w₂ 2045 (0 ∷ 0 ∷ 0 ∷ [])) where
   others : (i : ℕ) → 2048 ≤ i → getD w₃ i 0 ≡ getD w₂ i 0
-  others i h = ap (λ w. getD w i 0) e₃ ∙ getD-set-other (set w₂ 2046 0) 2047 i 0 0 (omega arith) ∙ getD-set-other w₂ 2046 i 0 0 (omega arith)
+  others i h =
+      ap (λ w. getD w i 0) e₃
+      ∙ getD-set-other (sets w₂ 2045 (0 ∷ 0 ∷ [])) 2047 i 0 0 (omega arith)
+      ∙ getD-set-other (set w₂ 2045 0) 2046 i 0 0 (omega arith)
+      ∙ getD-set-other w₂ 2045 i 0 0 (omega arith)
 
   long₃ : length w₃ ≡ length w₀
-  long₃ = ap length e₃ ∙ length-sets w₂ 2046 (0 ∷ 0 ∷ []) ∙ c₂ .long ∙ l₁
+  long₃ = ap length e₃ ∙ length-sets w₂ 2045 (0 ∷ 0 ∷ 0 ∷ []) ∙ c₂ .long ∙ l₁
 
   pub past-ready : (i : ℕ) → needed ≤ i → getD w₃ i 0 ≡ getD w₀ i 0
   past-ready i h =

@@ -1,19 +1,17 @@
--- What the steps of a reading promise one another: clearing, decoding, the visits, and how they ended.
-use Prim.Native.Nat.{ℕ, _+_, _-_, _*_, _<_, _≤_}
+-- What the steps of a reading promise one another: clearing, the visits, and how they ended.
+use Prim.Native.Nat.{ℕ, _+_, _*_, _<_, _≤_}
 use mathlib.Core.Path.{_≡_}
 use mathlib.Core.Bool.{Bool, true}
 use mathlib.Core.List.{List}
 use lib.ListN.{length, getD}
-use Rattle.meaning.specs.Grammar.{Answer, fail, ok}
+use Rattle.meaning.specs.Grammar.{fail, ok}
 use Rattle.meaning.specs.Decide.{isFree}
 use Rattle.meaning.specs.Reading.{State, Run, effort, deep, done}
-use Rattle.sheet.specs.Table.{nodesOf, rulesOf, rootOf, kindOf, aOf, bOf, grammarOf}
+use Rattle.sheet.specs.Table.{nodesOf, grammarOf}
 use Rattle.sheet.specs.Check.{Accepted}
 use Rattle.cells.specs.Cells.{treesAt}
 use Rattle.cells.specs.Arena.{Arena}
-use Rattle.visits.specs.Given.{nodesIn, rulesIn, keepsIn, baseIn, allowanceIn, grammarIn}
-use Rattle.visits.specs.Says.{FAILED, STOPPED}
-use Rattle.visits.specs.declared.Visited.{Visited}
+use Rattle.visits.specs.Says.{FAILED, STOPPED, Visited}
 use Rattle.reader.specs.declared.Reading.{Reading}
 use Rattle.reader.specs.Answer.{EFFORT, DEEP, longestLine, mostAllowance, workNeeded, runOutcome, Leaves}
 
@@ -23,23 +21,6 @@ pub record Filled (old new : List ℕ) (from to : ℕ) (f : ℕ → ℕ) : Type 
   pub written : (i : ℕ) → from ≤ i → i < to → getD new i 0 ≡ f i
   pub before : (i : ℕ) → i < from → getD new i 0 ≡ getD old i 0
   pub past : (i : ℕ) → to ≤ i → getD new i 0 ≡ getD old i 0
-
--- The word of node i of a table.
-abbrev pub nodeWord : List ℕ → ℕ → ℕ
-nodeWord table i = kindOf table i * 16777216 + aOf table i * 4096 + bOf table i
-
--- The root of the rule whose root stands at word j of the decoded table.
-abbrev pub rootWord : List ℕ → ℕ → ℕ
-rootWord table j = rootOf table (j - 512)
-
--- The table is decoded for reading.
-pub record Prepared (table : List ℕ) (allowance : ℕ) (free : Bool) (given : List ℕ) : Type 0 where
-  pub grammar : grammarIn given ≡ grammarOf table
-  pub nodes : nodesIn given ≡ nodesOf table
-  pub rules : rulesIn given ≡ rulesOf table
-  pub keeps : keepsIn given ≡ free
-  pub base : baseIn given ≡ 2048 + 4 * allowance
-  pub allowed : allowanceIn given ≡ allowance
 
 -- Nothing turns the call away, and the words are made ready.
 pub record Fitting (table line work : List ℕ) (allowance : ℕ) : Type 0 where

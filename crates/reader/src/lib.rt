@@ -7,15 +7,14 @@
 // The reader relies on the check's promise alone for every node that it visits.
 ghost use mathlib.Core.Path.{_≡_};
 ghost use mathlib.Core.Bool.{true, false, _&&_, cond};
-ghost use mathlib.Core.List.{List};
 ghost use Prim.Native.Nat.{ℕ, _+_, _*_, _<_, _≤_};
-ghost use lib.ListN.{length, getD};
+ghost use lib.ListN.{length};
 ghost use lib.Dec.{ltb};
-ghost use Rattle.meaning.specs.Reading.{Run, read};
-ghost use Rattle.sheet.specs.Table.{nodesOf, rulesOf, grammarOf};
-ghost use Rattle.sheet.specs.Check.{Accepted};
+ghost use Rattle.meaning.specs.Reading.{read};
+ghost use Rattle.sheet.specs.Table.{nodesOf, grammarOf};
 ghost use Rattle.reader.specs.Answer.{numbers, workNeeded, cleared, runOutcome, readingOf, Leaves};
-ghost use Rattle.reader.specs.Steps.{Filled, nodeWord, rootWord, Prepared, Fitting, Startable, Tells, Visiting, Finishable, Finished};
+ghost use Rattle.visits.specs.Says.{after-visit};
+ghost use Rattle.reader.specs.Steps.{Filled, Fitting, Startable, Tells, Visiting, Finishable, Finished};
 
 // What a reading returns.
 pub struct Reading {
@@ -63,41 +62,6 @@ fn clear(work: &mut [u32], from: usize, to: usize)
     }
 }
 
-// Node i in one word: kind, field a, field b.
-fn node_word(table: &[u8], i: usize) -> u32
-    requires { ⌜ Accepted (now table) × (i < nodesOf (now table)) ⌝ }
-    ensures { λ r. ⌜ r ≡ nodeWord (now (table .entry)) i ⌝ }
-{
-    let kind = sheet::kind(table, i) as u32;
-    let a = sheet::field_a(table, i) as u32;
-    let b = sheet::field_b(table, i) as u32;
-    kind * 16777216 + a * 4096 + b
-}
-
-fn decode_nodes(table: &[u8], given: &mut [u32; 581])
-    requires { ⌜ Accepted (now table) × (length (now given) ≡ 581) ⌝ }
-    ensures { λ _. ⌜ Filled (now (given .entry)) (now (given .exit)) 0 (nodesOf (now (table .entry))) (nodeWord (now (table .entry))) ⌝ }
-{
-    let n = sheet::node_count(table);
-    let mut i: usize = 0;
-    while i < n {
-        given[i] = node_word(table, i);
-        i += 1;
-    }
-}
-
-fn decode_roots(table: &[u8], given: &mut [u32; 581])
-    requires { ⌜ Accepted (now table) × (length (now given) ≡ 581) ⌝ }
-    ensures { λ _. ⌜ Filled (now (given .entry)) (now (given .exit)) 512 (512 + rulesOf (now (table .entry))) (rootWord (now (table .entry))) ⌝ }
-{
-    let r = sheet::rule_count(table);
-    let mut a: usize = 0;
-    while a < r {
-        given[512 + a] = sheet::root(table, a) as u32;
-        a += 1;
-    }
-}
-
 // 1 for yes.
 fn flag(yes: bool) -> u32
     ensures { λ r. ⌜ ltb 0 r ≡ yes ⌝ }
@@ -105,29 +69,18 @@ fn flag(yes: bool) -> u32
     if yes { 1 } else { 0 }
 }
 
-// Decodes an accepted table for reading.
-fn prepare(table: &[u8], allowance: u32, free: bool, given: &mut [u32; 581])
-    requires { ⌜ (Accepted (now table) × (allowance ≤ 1000000)) × (length (now given) ≡ 581) ⌝ }
-    ensures { λ _. ⌜ Prepared (now (table .entry)) allowance free (now (given .exit)) ⌝ }
-{
-    decode_nodes(table, given);
-    decode_roots(table, given);
-    given[576] = sheet::node_count(table) as u32;
-    given[577] = sheet::rule_count(table) as u32;
-    given[578] = flag(free);
-    given[579] = 2048 + 4 * allowance;
-    given[580] = allowance;
-}
-
-// The use of rule 0 at position 0, which is not itself a visit.
-fn start(table: &[u8], line: &[u8], work: &mut [u32], allowance: u32, free: bool) -> visits::Visited
+// The use of rule 0 at position 0, which is not itself a visit; what it answers.
+fn start(table: &[u8], line: &[u8], work: &mut [u32], allowance: u32, free: bool) -> u64
     requires { ⌜ Startable (now table) (now line) (now work) allowance free ⌝ }
-    ensures numbers { λ v. ⌜ Visiting allowance (length (now (line .entry))) (workNeeded allowance (nodesOf (now (table .entry))) (length (now (line .entry)))) (now (work .entry)) (now (work .exit)) v ⌝ }
-    ensures tells { λ v. ⌜ Tells allowance (length (now (line .entry))) (now (work .exit)) v (read (grammarOf (now (table .entry))) (now (line .entry)) allowance) ⌝ }
+    ensures numbers { λ r. ⌜ Visiting allowance (length (now (line .entry))) (workNeeded allowance (nodesOf (now (table .entry))) (length (now (line .entry)))) (now (work .entry)) (now (work .exit)) (after-visit r (now (work .exit))) ⌝ }
+    ensures tells { λ r. ⌜ Tells allowance (length (now (line .entry))) (now (work .exit)) (after-visit r (now (work .exit))) (read (grammarOf (now (table .entry))) (now (line .entry)) allowance) ⌝ }
 {
-    let mut given = [0u32; 581];
-    prepare(table, allowance, free, &mut given);
-    visits::use_rule(&given, line, work, 512, 0, 0, 0, 0, 0)
+    let first = sheet::first_node(table) as u32;
+    let given = [allowance, flag(free), first];
+    let mut answer = 0u64;
+    visits::no_visits(work);
+    visits::read_line(&given, table, line, work, &mut answer);
+    answer
 }
 
 // The whole line is asked for, and the match ends before it does.
@@ -141,14 +94,16 @@ fn unread(whole: bool, end: u64, long: u64) -> bool
 }
 
 // How the visits ended, by 01's rows 11 to 16 and 0; only a reading writes the room.
-fn finish(line: &[u8], work: &[u32], room: &mut [u8], whole: bool, v: visits::Visited) -> Reading
-    requires { ⌜ Finishable (length (now line)) (now work) v × (length (now line) ≤ 255) ⌝ }
-    ensures { λ r. ⌜ Finished whole (length (now (line .entry))) (now (work .entry)) v r (now (room .entry)) (now (room .exit)) ⌝ }
+fn finish(line: &[u8], work: &[u32], room: &mut [u8], whole: bool, answer: u64) -> Reading
+    requires { ⌜ Finishable (length (now line)) (now work) (after-visit answer (now work)) × (length (now line) ≤ 255) ⌝ }
+    ensures { λ r. ⌜ Finished whole (length (now (line .entry))) (now (work .entry)) (after-visit answer (now (work .entry))) r (now (room .entry)) (now (room .exit)) ⌝ }
 {
-    let made = v.made as u64;
-    if v.end == visits::STOPPED {
-        let code = v.list / 4096;
-        let place = v.list % 4096;
+    let made = visits::visits_made(work) as u64;
+    let last = visits::end_of(answer);
+    let list = visits::list_of(answer);
+    if last == visits::STOPPED {
+        let code = list / 4096;
+        let place = list % 4096;
         return Reading {
             code: code as u64,
             place: place as u64,
@@ -157,7 +112,7 @@ fn finish(line: &[u8], work: &[u32], room: &mut [u8], whole: bool, v: visits::Vi
             records: 0,
         };
     }
-    if v.end == visits::FAILED {
+    if last == visits::FAILED {
         return Reading {
             code: FAIL,
             place: 0,
@@ -166,7 +121,7 @@ fn finish(line: &[u8], work: &[u32], room: &mut [u8], whole: bool, v: visits::Vi
             records: 0,
         };
     }
-    let end = v.end as u64;
+    let end = last as u64;
     if unread(whole, end, line.len() as u64) {
         return Reading {
             code: REST,
@@ -176,7 +131,7 @@ fn finish(line: &[u8], work: &[u32], room: &mut [u8], whole: bool, v: visits::Vi
             records: 0,
         };
     }
-    let records = cells::records_of(work, v.list);
+    let records = cells::records_of(work, list);
     if MOST_RECORDS < records {
         return Reading {
             code: RECORDS,
@@ -195,7 +150,7 @@ fn finish(line: &[u8], work: &[u32], room: &mut [u8], whole: bool, v: visits::Vi
             records: records as u64,
         };
     }
-    cells::write(work, room, 1, v.list);
+    cells::write(work, room, 1, list);
     Reading {
         code: 0,
         place: 0,
@@ -232,8 +187,8 @@ fn read_line(
     let from = kept_from(free, 2048 + 4 * allowance as usize, needed);
     clear(work, from, needed);
     cells::no_cells(work);
-    let v = start(table, line, work, allowance, free);
-    let answer = finish(line, work, room, whole, v);
+    let ended = start(table, line, work, allowance, free);
+    let answer = finish(line, work, room, whole, ended);
     clear(work, 0, needed);
     answer
 }

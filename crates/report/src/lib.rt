@@ -33,7 +33,7 @@ ghost use Rattle.sheet.specs.Table.{nodesOf, mostNodes, mostRules, grammarOf};
 ghost use Rattle.sheet.specs.Check.{Accepted};
 ghost use Rattle.report.specs.Pass.{facts, only, inRow, oneOf, factsOf, factsAt, put, passedAll, rootFacts, Settled, Gathered, inSet, widened, led};
 ghost use Rattle.report.specs.Report.{EmptyRules, LeftRules, Reported};
-ghost use Rattle.report.specs.Lent.{Answered};
+ghost use Rattle.report.specs.Lent.{Used, Answered};
 
 // How many working numbers `is_free` asks for.
 pub const SCRATCH: usize = 3 * sheet::MOST_NODES;
@@ -47,6 +47,12 @@ pub struct Findings {
     pub left_recursive: u64,
     pub how_many: u32,
     pub lowest: u32,
+}
+
+// The rules whose root may be empty, and those that are left-recursive.
+struct Both {
+    may_be_empty: u64,
+    left_recursive: u64,
 }
 
 // What is known of a node: the rules that it uses at its start, no rule's root gone into, and whether it may be empty.
@@ -206,19 +212,17 @@ fn empty_rules(table: &[u8], scratch: &mut [u32]) -> u64
 }
 
 // For each rule the rules that are used at the start of its root.
-fn steps(table: &[u8], scratch: &[u32]) -> [u64; 64]
-    requires { ⌜ Accepted (now table) × (3 * mostNodes ≤ length (now scratch)) ⌝ }
-    ensures { λ to. ⌜ (length to ≡ mostRules) × ((a : ℕ) → a < length (grammarOf (now (table .entry)) .roots) → getD to a 0 ≡ rootFacts (now (table .entry)) (now (scratch .entry)) a .starts) ⌝ }
+fn steps(table: &[u8], scratch: &[u32], to: &mut [u64; 64])
+    requires { ⌜ Accepted (now table) × (3 * mostNodes ≤ length (now scratch)) × (length (now to) ≡ mostRules) ⌝ }
+    ensures { λ _. ⌜ (length (now (to .exit)) ≡ mostRules) × ((a : ℕ) → a < length (grammarOf (now (table .entry)) .roots) → getD (now (to .exit)) a 0 ≡ rootFacts (now (table .entry)) (now (scratch .entry)) a .starts) ⌝ }
 {
     let r = sheet::rule_count(table);
-    let mut to = [0u64; 64];
     let mut a: usize = 0;
     while a < r {
         let x = facts_at(scratch, sheet::root(table, a));
         to[a] = x.starts;
         a += 1;
     }
-    to
 }
 
 // A rule's set, with the row of rule k where the set has k.
@@ -282,9 +286,23 @@ fn left_rules(table: &[u8], scratch: &[u32]) -> u64
     ensures { λ found. ⌜ LeftRules (grammarOf (now (table .entry))) found ⌝ }
 {
     let r = sheet::rule_count(table);
-    let mut to = steps(table, scratch);
+    let mut to = [0u64; 64];
+    steps(table, scratch, &mut to);
     close(&mut to, r);
     led_back(&to, r)
+}
+
+// Both masks of an accepted table.
+fn masks(table: &[u8], scratch: &mut [u32]) -> Both
+    requires { ⌜ Accepted (now table) × (3 * mostNodes ≤ length (now scratch)) ⌝ }
+    ensures { λ x. ⌜ EmptyRules (grammarOf (now (table .entry))) (x .«may_be_empty») × LeftRules (grammarOf (now (table .entry))) (x .«left_recursive») × Used (now (table .entry)) (now (scratch .entry)) (now (scratch .exit)) ⌝ }
+{
+    let may_be_empty = empty_rules(table, scratch);
+    let left_recursive = left_rules(table, scratch);
+    Both {
+        may_be_empty,
+        left_recursive,
+    }
 }
 
 // 01's report on any bytes.
@@ -303,15 +321,14 @@ pub fn report(table: &[u8]) -> Findings
         };
     }
     let mut scratch = [0u32; SCRATCH];
-    let empty = empty_rules(table, &mut scratch);
-    let left = left_rules(table, &scratch);
+    let found = masks(table, &mut scratch);
     Findings {
         code: v.code,
         place: v.place,
-        may_be_empty: empty,
-        left_recursive: left,
-        how_many: bits::count(left),
-        lowest: bits::lowest(left),
+        may_be_empty: found.may_be_empty,
+        left_recursive: found.left_recursive,
+        how_many: bits::count(found.left_recursive),
+        lowest: bits::lowest(found.left_recursive),
     }
 }
 
@@ -320,6 +337,6 @@ pub fn is_free(table: &[u8], scratch: &mut [u32]) -> bool
     requires { ⌜ Accepted (now table) × (3 * mostNodes ≤ length (now scratch)) ⌝ }
     ensures { λ answer. ⌜ Answered (now (table .entry)) answer (now (scratch .entry)) (now (scratch .exit)) ⌝ }
 {
-    empty_rules(table, scratch);
-    left_rules(table, scratch) == 0
+    let found = masks(table, scratch);
+    found.left_recursive == 0
 }

@@ -1,13 +1,13 @@
 -- What the check's acceptance says of a table: it is well formed, and its grammar is closed.
 use mathlib.Core.Path.{_≡_, refl, sym, ap, subst, _∙_}
 use mathlib.Core.List.{List}
-use Prim.Native.Nat.{ℕ, zero, suc, _+_, _≤_, _<_}
+use Prim.Native.Nat.{ℕ, zero, suc, _+_, _*_, _≤_, _<_}
 use native.Mathlib.Omega.{arith}
 use lib.ListN.{length, getD}
 use Rattle.meaning.specs.Grammar as grammar
 use Rattle.meaning.specs.Grammar.{Node, empty, range, rule, seq, choice, not, rep, Grammar, node, Below, Closed}
 use Rattle.sheet.specs.declared.Verdict.{Verdict}
-use Rattle.sheet.specs.Table.{nodesOf, mostNodes, rulesOf, mostRules, rootOf, kindOf, aOf, bOf, WellFormed, decode, nodeOf, each, grammarOf}
+use Rattle.sheet.specs.Table.{nodesOf, mostNodes, rulesOf, mostRules, rootOf, nodeAt, formula, kindOf, aOf, bOf, WellFormed, decode, nodeOf, each, grammarOf}
 use Rattle.sheet.specs.Table.{Fits, is-empty, is-range, is-rule, is-sequence, is-choice, is-not, is-repetition}
 use Rattle.sheet.specs.Check.{READ, checkOf, Accepted}
 use Rattle.sheet.proofs.Exact.{accepted-iff}
@@ -32,6 +32,15 @@ fields-small (is-repetition h) r i = omega arith
 
 pub small-fields : (t : List ℕ) → Accepted t → (i : ℕ) → i < nodesOf t → (aOf t i < mostNodes) × (bOf t i < mostNodes)
 small-fields t accepted i h = let w = well-formed t accepted in fields-small (w .fields i h) (w .few-rules) (omega arith)
+
+-- A node of an accepted table lies inside it.
+pub node-inside : (t : List ℕ) → Accepted t → (i : ℕ) → i < nodesOf t → nodeAt (rulesOf t) i + 5 ≤ length t
+unfolding formula
+node-inside t a i h = let w = well-formed t a in let f = w .by-formula in omega arith
+
+-- Where a node starts, counted from the first.
+pub node-place : (t : List ℕ) → Accepted t → (first i : ℕ) → first ≡ nodeAt (rulesOf t) 0 → i < nodesOf t → (first + 5 * i ≡ nodeAt (rulesOf t) i) × (nodeAt (rulesOf t) i ≤ 2690)
+node-place t a first i e h = let w = well-formed t a in let n = w .few-nodes in let r = w .few-rules in (omega arith, omega arith)
 
 -- ---- The grammar of a table.
 pub length-each {ℓ} : {A : Type ℓ} (f : ℕ → A) (i k : ℕ) → length (each f i k) ≡ k

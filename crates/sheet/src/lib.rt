@@ -227,35 +227,57 @@ pub fn root(table: &[u8], a: usize) -> usize
     pair(table, 7 + 2 * a)
 }
 
-// Where node i starts.
-fn node_at(table: &[u8], i: usize) -> usize
-    requires { ⌜ Accepted (now table) × (i < nodesOf (now table)) ⌝ }
-    ensures { λ p. ⌜ (p ≡ nodeAt (rulesOf (now (table .entry))) i) × (p + 5 ≤ length (now (table .entry))) ⌝ }
+// Where the nodes start.
+pub fn first_node(table: &[u8]) -> usize
+    requires { ⌜ Accepted (now table) ⌝ }
+    ensures { λ p. ⌜ (p ≡ nodeAt (rulesOf (now (table .entry))) 0) × (p ≤ 135) ⌝ }
 {
-    7 + 2 * rule_count(table) + 5 * i
+    7 + 2 * rule_count(table)
 }
 
-// The kind of node i.
-pub fn kind(table: &[u8], i: usize) -> usize
-    requires { ⌜ Accepted (now table) × (i < nodesOf (now table)) ⌝ }
+// The kind of node i, for a caller who knows where the nodes start.
+pub fn kind_from(table: &[u8], first: usize, i: usize) -> usize
+    requires { ⌜ Accepted (now table) × ((i < nodesOf (now table)) × (first ≡ nodeAt (rulesOf (now table)) 0)) ⌝ }
     ensures { λ k. ⌜ (k ≡ kindOf (now (table .entry)) i) × (k ≤ 6) ⌝ }
 {
-    let at = node_at(table, i);
+    let at = first + 5 * i;
     wide(table[at])
 }
 
 // Field a of node i.
+pub fn field_a_from(table: &[u8], first: usize, i: usize) -> usize
+    requires { ⌜ Accepted (now table) × ((i < nodesOf (now table)) × (first ≡ nodeAt (rulesOf (now table)) 0)) ⌝ }
+    ensures { λ a. ⌜ (a ≡ aOf (now (table .entry)) i) × (a < mostNodes) ⌝ }
+{
+    pair(table, first + 5 * i + 1)
+}
+
+// Field b of node i.
+pub fn field_b_from(table: &[u8], first: usize, i: usize) -> usize
+    requires { ⌜ Accepted (now table) × ((i < nodesOf (now table)) × (first ≡ nodeAt (rulesOf (now table)) 0)) ⌝ }
+    ensures { λ b. ⌜ (b ≡ bOf (now (table .entry)) i) × (b < mostNodes) ⌝ }
+{
+    pair(table, first + 5 * i + 3)
+}
+
+// The same, for a caller who does not.
+pub fn kind(table: &[u8], i: usize) -> usize
+    requires { ⌜ Accepted (now table) × (i < nodesOf (now table)) ⌝ }
+    ensures { λ k. ⌜ (k ≡ kindOf (now (table .entry)) i) × (k ≤ 6) ⌝ }
+{
+    kind_from(table, first_node(table), i)
+}
+
 pub fn field_a(table: &[u8], i: usize) -> usize
     requires { ⌜ Accepted (now table) × (i < nodesOf (now table)) ⌝ }
     ensures { λ a. ⌜ (a ≡ aOf (now (table .entry)) i) × (a < mostNodes) ⌝ }
 {
-    pair(table, node_at(table, i) + 1)
+    field_a_from(table, first_node(table), i)
 }
 
-// Field b of node i.
 pub fn field_b(table: &[u8], i: usize) -> usize
     requires { ⌜ Accepted (now table) × (i < nodesOf (now table)) ⌝ }
     ensures { λ b. ⌜ (b ≡ bOf (now (table .entry)) i) × (b < mostNodes) ⌝ }
 {
-    pair(table, node_at(table, i) + 3)
+    field_b_from(table, first_node(table), i)
 }

@@ -11,16 +11,15 @@ use borrow.Author.Tests.{lt-ltb, le-ltb}
 use Rattle.meaning.specs.Grammar.{fits, rootOf, Note}
 use Rattle.meaning.specs.Reading.{State, Run, Visit, byte, after, second, otherwise, denied, repeated, wrapped, apply, useRule}
 use Rattle.sheet.specs.Table.{decode}
-use Rattle.visits.specs.declared.Visited.{Visited}
-use Rattle.visits.specs.Given.{kindIn, aIn, bIn, rootIn, nodesIn, rulesIn, keepsIn, allowanceIn, grammarIn, Fit}
+use Rattle.visits.specs.Given.{Given, kindIn, aIn, bIn, rootIn, nodesIn, rulesIn, keepsIn, allowanceIn, grammarIn, Fit}
 use Rattle.visits.specs.Words.{Words}
-use Rattle.visits.specs.Says.{FAILED, Came, reading, uses, grows, applies, endOf}
+use Rattle.visits.specs.Says.{Visited, FAILED, Came, reading, uses, grows, applies, endOf}
 use Rattle.visits.proofs.Steps.{came-as}
 use Rattle.visits.proofs.Nodes.{result, match-still}
 use Rattle.visits.proofs.Enter.{range-in, range-out}
-use Rattle.visits.proofs.Ready.{root-is, node-as, below-as, applied-as, rules-are}
+use Rattle.visits.proofs.Ready.{root-is, below-as, applied-as, rules-are}
 
-module _ (given line : List ℕ) (fit : Fit given line) where
+module _ (given : Given) (line : List ℕ) (fit : Fit given line) where
   -- One byte in a range, where its end is known.
   pub range-came : {w : List ℕ} {live made top : ℕ} (lo hi x end : ℕ) → Words given line w live top → made ≤ allowanceIn given → end ≡ endOf (byte x (fits line lo hi x))
       → Came given line w w live made top (result end 0 top made) (λ l s. Run.done (byte x (fits line lo hi x)) s)

@@ -4,16 +4,16 @@ use mathlib.Core.Bool.{Bool, true, false, and-eq-true-iff}
 use mathlib.Core.List.{List}
 use Prim.Native.Nat.{ℕ, zero, suc, _+_, _*_, _<_, _≤_}
 use native.Mathlib.Omega.{arith}
-use lib.ListN.{length, getD}
+use lib.ListN.{length, getD, set}
 use lib.Dec.{ltb, leb}
 use borrow.Author.Tests.{ltb-true, lt-ltb, le-ltb, le-leb, lt-leb}
 use native.Mathlib.Numerals.{add-one}
 use Rattle.meaning.specs.Grammar.{Answer, fail, ok, fits, Note, Grammar}
 use Rattle.meaning.specs.Reading.{State, Run, effort, deep, done, Visit, byte, counted, visited, visit}
-use Rattle.visits.specs.declared.Visited.{Visited}
-use Rattle.visits.specs.Given.{allowanceIn, keepsIn, grammarIn, Fit}
+use Rattle.visits.specs.Given.{Given, allowanceIn, keepsIn, grammarIn, Fit}
 use Rattle.visits.specs.Words.{Stands, Words}
-use Rattle.visits.specs.Says.{FAILED, STOPPED, endOf, Says, Came}
+use Rattle.visits.specs.Says.{Visited, FAILED, STOPPED, endOf, Says, Came}
+use Rattle.visits.proofs.Frame.{same-then, count-same, count-stands}
 use Rattle.visits.proofs.Steps.{came-as, still}
 use Rattle.visits.proofs.Nodes.{result, match-still, fail-still}
 
@@ -40,7 +40,7 @@ follows : (n : ℕ) → 0 < n → (m : ℕ) × (n ≡ suc m)
 follows zero h = absurd (omega arith)
 follows (suc n) h = (n, refl)
 
-module _ (given line : List ℕ) (fit : Fit given line) where
+module _ (given : Given) (line : List ℕ) (fit : Fit given line) where
   abbrev reading : ℕ → List Note → Visit
   reading d = visit (grammarIn given) line (keepsIn given) d
 
@@ -60,12 +60,12 @@ module _ (given line : List ℕ) (fit : Fit given line) where
   spend : {w : List ℕ} {live made : ℕ} {l : List Note} {s : State} (n : ℕ) → s .left ≡ suc n → Stands given line w live made l s → Stands given line w live (made + 1) l (spent n s)
   spend n e h = record { lives = h .lives; left = let z = h .left in omega arith; kept = h .kept }
 
-  pub enter-open : {w w′ : List ℕ} {live made top : ℕ} {r : Visited} (left d i x : ℕ) → left ≡ suc d → made < allowanceIn given
-      → Came given line w w′ live (made + 1) top r (λ l s. visited (grammarIn given) line (keepsIn given) (reading d) l i x s) → Came given line w w′ live made top r (λ l s. reading left l i x s)
-  enter-open {w} {w′} {live} {made} {top} {r} left d i x e lt c =
+  pub enter-open : {w w′ : List ℕ} {live made top : ℕ} {r : Visited} (left d i x : ℕ) → left ≡ suc d → made < allowanceIn given → live * 3 ≤ 2042 → Words given line w live top
+      → Came given line (set w 2043 (made + 1)) w′ live (made + 1) top r (λ l s. visited (grammarIn given) line (keepsIn given) (reading d) l i x s) → Came given line w w′ live made top r (λ l s. reading left l i x s)
+  enter-open {w} {w′} {live} {made} {top} {r} left d i x e lt few words c =
       let m = c .made-up in
       record {
-        same = c .same;
+        same = same-then given line (count-same given line w live top (made + 1) few) (c .same) (omega arith) (omega arith);
         words = c .words;
         end-most = c .end-most;
         end-in = c .end-in;
@@ -76,7 +76,7 @@ module _ (given line : List ℕ) (fit : Fit given line) where
         says = λ l s st.
             let z = st .left in
             let n = follows (s .left) (omega arith) in
-            rw (e, visit-open-at (grammarIn given) line (keepsIn given) l i x s d (n .0) (n .1)) (c .says l (spent (n .0) s) (spend (n .0) (n .1) st));
+            rw (e, visit-open-at (grammarIn given) line (keepsIn given) l i x s d (n .0) (n .1)) (c .says l (spent (n .0) s) (count-stands given line w live top (made + 1) few words (spend (n .0) (n .1) st)));
       }
 
   -- One byte in a range.

@@ -6,16 +6,17 @@ use mathlib.Core.List.{List, [], _∷_}
 use Prim.Native.Nat.{ℕ, _+_, _*_, _<_, _≤_}
 use native.Mathlib.Nat.{mul-le-mul-right, mul-le-mul}
 use native.Mathlib.Omega.{arith}
-use lib.ListN.{length, getD}
+use lib.ListN.{length, getD, set, length-set}
+use lib.Seq.{getD-set-same, getD-set-other}
 use Rattle.meaning.specs.Reading.{State}
 use Rattle.meaning.specs.Grammar.{Trees, no-trees, tree, Answer, fail, ok, Note, look}
 use Rattle.cells.specs.Cells.{treesAt}
-use Rattle.cells.proofs.Frame.{trees-same}
-use Rattle.visits.specs.Given.{nodesIn, keepsIn, baseIn, allowanceIn, pairsIn, roomIn, Fit}
-use Rattle.visits.specs.Words.{HeldAs, Entry, Lives, placeIn, keptAs, keptAt, Stands, Words, Same}
-use Rattle.cells.specs.Arena.{Made}
+use Rattle.cells.proofs.Frame.{trees-same, arena-same}
+use Rattle.sheet.proofs.Accepting.{well-formed}
+use Rattle.visits.specs.Given.{Given, nodesIn, keepsIn, baseIn, allowanceIn, pairsIn, roomIn, Fit}
+use Rattle.visits.specs.Words.{HeldAs, Entry, Lives, topIn, madeIn, placeIn, keptAs, keptAt, Stands, Words, Same, Added}
 
-module _ (given line : List ℕ) where
+module _ (given : Given) (line : List ℕ) where
   pub same-none : (w : List ℕ) (live top : ℕ) → Same given line w w live top
   same-none w live top = record { uses = λ i h. refl; cells = λ i a b. refl; past = λ i h. refl }
 
@@ -55,7 +56,7 @@ module _ (given line : List ℕ) where
   pair-in i x li lx = let z : (i + 1) * (length line + 1) ≤ pairsIn given line = mul-le-mul-right (length line + 1) (omega arith) in omega arith
 
   pub pairs-few : Fit given line → pairsIn given line ≤ 131072
-  pairs-few fit = let l : length line + 1 ≤ 256 = let z = fit .short in omega arith in mul-le-mul (fit .nodes) l
+  pairs-few fit = let l : length line + 1 ≤ 256 = let z = fit .short in omega arith in mul-le-mul (well-formed (given .table) (fit .accepted) .few-nodes) l
 
   kept-as : (v v′ : ℕ) (ts us : Trees) → v′ ≡ v → us ≡ ts → keptAs v′ us ≡ keptAs v ts
   kept-as v v′ ts us e f = rw (e, f)
@@ -75,21 +76,20 @@ module _ (given line : List ℕ) where
       kept = λ free i x li lx. h .kept free i x li lx ∙ sym (kept-same free i x li lx);
     }
 
-  pub made-kept : {old new : List ℕ} {top list top′ : ℕ} {ts : Trees} → Fit given line → top < allowanceIn given → Made old new top list top′ ts → (i : ℕ) → baseIn given ≤ i → getD new i 0 ≡ getD old i 0
-  made-kept fit low made i h = let one = made .one in let b = fit .base in made .above i (omega arith)
+  pub made-kept : {old new : List ℕ} {top list top′ : ℕ} {ts : Trees} → Fit given line → top < allowanceIn given → Added old new top list top′ ts → (i : ℕ) → baseIn given ≤ i → getD new i 0 ≡ getD old i 0
+  made-kept fit low made i h = let one = made .one in made .above i (omega arith)
 
   -- A list was made.
-  module _ {old new : List ℕ} {live top list top′ : ℕ} {ts : Trees} (fit : Fit given line) (few : live * 3 ≤ 2046) (low : top < allowanceIn given) (made : Made old new top list top′ ts) where
+  module _ {old new : List ℕ} {live top list top′ : ℕ} {ts : Trees} (fit : Fit given line) (few : live * 3 ≤ 2042) (low : top < allowanceIn given) (made : Added old new top list top′ ts) where
     pub made-same : Same given line old new live top
     made-same =
         let one = made .one in
-        record { uses = λ i h. made .below i (omega arith); cells = λ i a b. made .below i b; past = λ i h. made .above i (omega arith) }
+        record { uses = λ i h. made .below i (omega arith) (omega arith); cells = λ i a b. made .below i b (omega arith); past = λ i h. made .above i (omega arith) }
 
     pub made-words : Words given line old live top → Words given line new live top′
     made-words h =
         let one = made .one in
         let rise = made .rise in
-        let b = fit .base in
         record {
           room = let l = made .long in let z = h .room in omega arith;
           arena = made .arena;
@@ -98,3 +98,35 @@ module _ (given line : List ℕ) where
           kept-lists = λ free j lt. omega (arith, made-kept fit low made (baseIn given + j * 2 + 1) (omega arith), h .kept-lists free j lt);
           kept-ends = λ free j lt. omega (arith, made-kept fit low made (baseIn given + j * 2) (omega arith), h .kept-ends free j lt);
         }
+
+  count-kept : (w : List ℕ) (n i : ℕ) → baseIn given ≤ i → getD (set w 2043 n) i 0 ≡ getD w i 0
+  count-kept w n i h = getD-set-other w 2043 i n 0 (omega arith)
+
+  -- The number of visits made was written.
+  module _ (w : List ℕ) (live top n : ℕ) (few : live * 3 ≤ 2042) where
+    pub count-same : Same given line w (set w 2043 n) live top
+    count-same = record {
+      uses = λ i h. getD-set-other w 2043 i n 0 (omega arith);
+      cells = λ i a b. getD-set-other w 2043 i n 0 (omega arith);
+      past = λ i h. getD-set-other w 2043 i n 0 (omega arith);
+    }
+
+    module _ (words : Words given line w live top) where
+      pub count-words : Words given line (set w 2043 n) live top
+      count-words = record {
+        room = omega (arith, words .room, length-set w 2043 n);
+        arena = arena-same w (set w 2043 n) top (count-same .cells) (length-set w 2043 n) (words .arena);
+        held-lists = λ i lt. omega (arith, count-same .uses (i * 3 + 2) (omega arith), words .held-lists i lt);
+        held-ends = λ i lt. omega (arith, count-same .uses (i * 3 + 1) (omega arith), words .held-ends i lt);
+        kept-lists = λ free j lt. omega (arith, count-kept w n (baseIn given + j * 2 + 1) (omega arith), words .kept-lists free j lt);
+        kept-ends = λ free j lt. omega (arith, count-kept w n (baseIn given + j * 2) (omega arith), words .kept-ends free j lt);
+      }
+
+      pub count-stands : {made : ℕ} {l : List Note} {s : State} → Stands given line w live made l s → Stands given line (set w 2043 n) live made l s
+      count-stands h = stands-same count-same (count-kept w n) words h
+
+  pub count-top : (w : List ℕ) (n : ℕ) → topIn (set w 2043 n) ≡ topIn w
+  count-top w n = getD-set-other w 2043 2042 n 0 (omega arith)
+
+  pub count-made : (w : List ℕ) (n : ℕ) → 2048 ≤ length w → madeIn (set w 2043 n) ≡ n
+  count-made w n h = getD-set-same w 2043 n 0 (omega arith)

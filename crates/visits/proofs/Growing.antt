@@ -11,11 +11,9 @@ use borrow.Author.Tests.{lt-ltb, le-ltb}
 use Rattle.meaning.specs.Grammar.{Trees, no-trees, tree, Answer, fail, ok, wrap, rootOf, Note, noted, look}
 use Rattle.meaning.specs.Reading.{State, Run, effort, deep, done, after, Visit, wrapped, longer, attempted, grow, firstAttempt, useLive, useRule}
 use Rattle.cells.specs.Cells.{treesAt}
-use Rattle.cells.specs.Arena.{Made}
-use Rattle.visits.specs.declared.Visited.{Visited}
-use Rattle.visits.specs.Given.{allowanceIn, grammarIn, Fit}
-use Rattle.visits.specs.Words.{keyOf, Stands, Words, Same}
-use Rattle.visits.specs.Says.{FAILED, STOPPED, Says, Came}
+use Rattle.visits.specs.Given.{Given, allowanceIn, grammarIn, Fit}
+use Rattle.visits.specs.Words.{Added, keyOf, Stands, Words, Same}
+use Rattle.visits.specs.Says.{Visited, FAILED, STOPPED, Says, Came}
 use Rattle.visits.proofs.Frame.{same-none, same-then, same-trees, stands-same, made-same, made-kept, made-words}
 use Rattle.visits.proofs.Steps.{says-stop, then-match, unmatched, came-when}
 use Rattle.visits.proofs.Nodes.{result}
@@ -26,7 +24,7 @@ abbrev pub kids : Trees → Trees
 kids no-trees = no-trees
 kids (tree a x e cs ts) = cs
 
-module _ (given line : List ℕ) (v : List Note → Visit) (root a x : ℕ) where
+module _ (given : Given) (line : List ℕ) (v : List Note → Visit) (root a x : ℕ) where
   -- The root visited while q is held.
   abbrev pub attempt : List Note → Answer → State → Run
   attempt l q s = v (noted a x q l) root x s
@@ -39,7 +37,6 @@ module _ (given line : List ℕ) (v : List Note → Visit) (root a x : ℕ) wher
   pub record Growing (live : ℕ) (w₀ : List ℕ) (end₀ made₀ top₀ : ℕ) (w : List ℕ) (end made top : ℕ) : Type 0 where
     pub same : Same given line w₀ w live top₀
     pub words : Words given line w live top
-    pub long : length w ≡ length w₀
     pub end-in : end ≤ length line
     pub top-up : top₀ ≤ top
     pub top-in : 0 < top
@@ -51,7 +48,7 @@ module _ (given line : List ℕ) (v : List Note → Visit) (root a x : ℕ) wher
         → ((f : ℕ) (s′ : State) → Stands given line w live made l s′ → s′ .left ≤ f → Says given line w′ live l r (grown l f end (kids (treesAt w top)) s′))
         → Says given line w′ live l r (grown l (s .left) end₀ (kids (treesAt w₀ top₀)) s)
 
-module _ (given line : List ℕ) (fit : Fit given line) (v : List Note → Visit) (root a x : ℕ) (out : (l : List Note) (s : State) → s .left ≡ 0 → v l root x s ≡ effort x s) where
+module _ (given : Given) (line : List ℕ) (fit : Fit given line) (v : List Note → Visit) (root a x : ℕ) (out : (l : List Note) (s : State) → s .left ≡ 0 → v l root x s ≡ effort x s) where
   module _ (w : List ℕ) (live : ℕ) (l : List Note) (r : Visited) (e : ℕ) (cs : Trees) where
     grow-stop : (f : ℕ) (s : State) → s .left ≤ f → Says given line w live l r (attempt given line v root a x l (ok e cs) s) → r .end ≡ STOPPED → Says given line w live l r (grown given line v root a x l f e cs s)
     unfolding grow after
@@ -115,7 +112,6 @@ module _ (given line : List ℕ) (fit : Fit given line) (v : List Note → Visit
       record {
         same = same-none given line w live top;
         words = words;
-        long = refl;
         end-in = inside;
         top-up = omega arith;
         top-in = some;
@@ -164,10 +160,10 @@ module _ (given line : List ℕ) (fit : Fit given line) (v : List Note → Visit
         way-out refl refl (omega arith) (λ z. g .end-in) (λ z. up) (λ l f s st le. grow-held w₂ live l next end (kids (treesAt w top)) f s top (g .end-in) e le (n .says l s st) c)
 
     -- Another turn.
-    pub turns : end < next .end → next .end < STOPPED → live * 3 ≤ 2046 → next .top < allowanceIn given → next .top + made < top + next .made → {w₃ : List ℕ} → length w₂ ≡ length w
-        → Made w₂ w₃ (next .top) (next .top + 1) (next .top + 1) (tree a x (next .end) (treesAt w₂ (next .list)) no-trees)
+    pub turns : end < next .end → next .end < STOPPED → live * 3 ≤ 2042 → next .top < allowanceIn given → next .top + made < top + next .made → {w₃ : List ℕ}
+        → Added w₂ w₃ (next .top) (next .top + 1) (next .top + 1) (tree a x (next .end) (treesAt w₂ (next .list)) no-trees)
         → Growing given line v root a x live w₀ end₀ made₀ top₀ w₃ (next .end) (next .made) (next .top + 1)
-    turns lt short few low fewer {w₃} el m =
+    turns lt short few low fewer {w₃} m =
         let s₁ = made-same given line {live = live} fit few low m in
         let a₁ = g .top-up in
         let b₁ = g .made-up in
@@ -178,7 +174,6 @@ module _ (given line : List ℕ) (fit : Fit given line) (v : List Note → Visit
         record {
           same = same-then given line (same-then given line (g .same) (n .same) (omega arith) a₁) s₁ (omega arith) (omega arith);
           words = made-words given line fit few low m (n .words);
-          long = m .long ∙ el ∙ g .long;
           end-in = n .end-in short;
           top-up = omega arith;
           top-in = omega arith;
@@ -209,8 +204,8 @@ module _ (given line : List ℕ) (fit : Fit given line) (v : List Note → Visit
     unfolding firstAttempt
     first-out h = used (unmatched given line (fit .short) (λ l. firstAttempt (attempt given line v root a x l) a x) A h (λ l s. refl))
 
-    pub first-grown : first .end < STOPPED → live * 3 ≤ 2046 → first .top < allowanceIn given → {w₂ w′ : List ℕ} {r : Visited}
-        → Made w₁ w₂ (first .top) (first .top + 1) (first .top + 1) (tree a x (first .end) (treesAt w₁ (first .list)) no-trees)
+    pub first-grown : first .end < STOPPED → live * 3 ≤ 2042 → first .top < allowanceIn given → {w₂ w′ : List ℕ} {r : Visited}
+        → Added w₁ w₂ (first .top) (first .top + 1) (first .top + 1) (tree a x (first .end) (treesAt w₁ (first .list)) no-trees)
         → Came given line w₂ w′ live (first .made) (first .top + 1) r (λ l s. grown given line v root a x l (s .left) (first .end) (kids (treesAt w₂ (first .top + 1))) s)
         → Came given line w₀ w′ live made top r (uses given line fit v a x)
     unfolding firstAttempt

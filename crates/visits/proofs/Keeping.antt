@@ -1,7 +1,7 @@
 -- Kept answers: a pair that has one gives it, and a finished pair gets one.
 use mathlib.Core.Path.{_≡_, refl, sym, subst, ap, _∙_}
 use mathlib.Core.Logic.{_≢_, _⊎_, inl, inr}
-use mathlib.Core.Bool.{Bool, true, false}
+use mathlib.Core.Bool.{Bool, true, false, cond}
 use mathlib.Core.List.{List, [], _∷_}
 use mathlib.Core.Option.{Option, none, some}
 use Prim.Native.Nat.{ℕ, zero, suc, _+_, _*_, _-_, _<_, _≤_}
@@ -16,12 +16,11 @@ use Rattle.meaning.specs.Reading.{State, Run, done, after, Visit, apply, keep, 
 use Rattle.meaning.proofs.Notes.{look-same, look-other}
 use Rattle.cells.specs.Cells.{treesAt}
 use Rattle.cells.proofs.Frame.{arena-same}
-use Rattle.visits.specs.declared.Visited.{Visited}
-use Rattle.visits.specs.Given.{nodesIn, keepsIn, baseIn, allowanceIn, pairsIn, roomIn, grammarIn, Fit}
-use Rattle.visits.specs.Words.{placeIn, keptAs, keptAt, Stands, Words, Same}
-use Rattle.visits.specs.Says.{FAILED, STOPPED, Says, Came}
+use Rattle.visits.specs.Given.{Given, lent, nodesIn, keepsIn, baseIn, allowanceIn, pairsIn, roomIn, grammarIn, Fit}
+use Rattle.visits.specs.Words.{placeIn, keptAs, keptAt, Stands, Words, Same, keptWord, Kept}
+use Rattle.visits.specs.Says.{Visited, FAILED, STOPPED, Says, Came}
 use Rattle.visits.proofs.Frame.{pair-in, same-trees, lives-same, same-none}
-use Rattle.visits.proofs.Steps.{then-match, then-fail, stopped, came-as, came-when, still}
+use Rattle.visits.proofs.Steps.{then-match, then-fail, stopped, came-as, came-when, still, came-failed}
 use Rattle.visits.proofs.Nodes.{result}
 
 -- Two words written one after the other.
@@ -48,7 +47,7 @@ by-same {P} i j f g = by-test (eqb i j) refl
     by-test true e = f (eqb-true i j e)
     by-test false e = g (eqb-false i j e)
 
-module _ (given line : List ℕ) where
+module _ (given : Given) (line : List ℕ) where
   abbrev pair : ℕ → ℕ → ℕ
   pair i x = i * (length line + 1) + x
 
@@ -68,13 +67,13 @@ module _ (given line : List ℕ) where
   same-position : (i x j y : ℕ) → pair i x ≡ pair j y → i ≡ j → x ≡ y
   same-position i x j y e q = let z : i * (length line + 1) ≡ j * (length line + 1) = ap (λ n. n * (length line + 1)) q in omega arith
 
-  module _ (fit : Fit given line) {w : List ℕ} {live top : ℕ} (words : Words given line w live top) (free : keepsIn given ≡ true) (few : live * 3 ≤ 2046) (low : top ≤ allowanceIn given)
+  module _ (fit : Fit given line) {w : List ℕ} {live top : ℕ} (words : Words given line w live top) (free : keepsIn given ≡ true) (few : live * 3 ≤ 2042) (low : top ≤ allowanceIn given)
       (i x : ℕ) (li : i < nodesIn given) (lx : x ≤ length line) where
     abbrev place : ℕ
     place = placeIn given line i x
 
     in-room : place + 1 < length w
-    in-room = let z = pair-in given line i x li lx in let b = fit .base in let r = words .room in omega arith
+    in-room = let z = pair-in given line i x li lx in let r = words .room in omega arith
 
     module _ (word list : ℕ) (ends : word ≤ length line + 2) (lists : list ≤ top) where
       abbrev new : List ℕ
@@ -82,7 +81,6 @@ module _ (given line : List ℕ) where
 
       pub keep-same : Same given line w new live top
       keep-same =
-          let b = fit .base in
           let z = pair-in given line i x li lx in
           record {
             uses = λ j h. put-other w place word list j (omega arith) (omega arith);
@@ -205,7 +203,7 @@ module _ (given line : List ℕ) where
         pub keep-stop : r .end ≡ STOPPED → Came given line w w′ live made top r visiting
         keep-stop e = from-new (stopped given line (fit .short) (λ l. keep i x) c e)
 
-        module _ (few : live * 3 ≤ 2046) (low : r .top ≤ allowanceIn given) where
+        module _ (few : live * 3 ≤ 2042) (low : r .top ≤ allowanceIn given) where
           pub keep-fail : r .end ≡ FAILED → Came given line w (pairPut w′ (placeIn given line i x) 1 0) live made top (result FAILED 0 (r .top) (r .made)) visiting
           unfolding keep keptAs
           keep-fail e =
@@ -228,25 +226,46 @@ module _ (given line : List ℕ) where
                 record { end = refl; inside = inside; stands = keep-stands fit (c .words) free few low i x li lx (r .end + 2) (r .list) (omega arith) below (ok (r .end) (treesAt w′ (r .list))) (rw two refl) l s h },
               ))))
 
-    -- The same, where the place was worked out as a number.
-    module _ {w : List ℕ} {live made top : ℕ} (at : ℕ) (is : at ≡ placeIn given line i x) (words : Words given line w live top) (free : keepsIn given ≡ true) (le : made ≤ allowanceIn given) where
-      pub fail-at : getD w at 0 ≡ 1 → Came given line w w live made top (result FAILED 0 top made) visiting
-      fail-at e = visited-fail words free le (rw is at e)
+    -- By the word that is kept: a failure, a match, or nothing.
+    module _ {w : List ℕ} {live made top : ℕ} (words : Words given line w live top) (le : made ≤ allowanceIn given) where
+      word-kept : 0 < keptWord (lent [] (given .numbers)) line w i x → (keepsIn given ≡ true) × (keptWord (lent [] (given .numbers)) line w i x ≡ getD w (placeIn given line i x) 0)
+      unfolding keptWord
+      word-kept h = by-test (keepsIn given) refl
+        where
+          by-test : (b : Bool) → keepsIn given ≡ b → (keepsIn given ≡ true) × (cond (keepsIn given) (getD w (placeIn given line i x) 0) 0 ≡ getD w (placeIn given line i x) 0)
+          by-test true q = (q, rw q refl)
+          by-test false q = let z : 0 < 0 = rw q at h in absurd (omega arith)
 
-      pub match-at : 1 < getD w at 0 → Came given line w w live made top (result (getD w at 0 - 2) (getD w (at + 1) 0) top made) visiting
-      match-at lt = let e : getD w (placeIn given line i x) 0 ≡ suc (suc (getD w (placeIn given line i x) 0 - 2)) = let z : 1 < getD w (placeIn given line i x) 0 = rw is at lt in omega arith in
-          rw is (visited-match words free le (getD w (placeIn given line i x) 0 - 2) e)
+      pub word-fail : keptWord (lent [] (given .numbers)) line w i x ≡ 1 → Came given line w w live made top (result FAILED 0 top made) visiting
+      word-fail e =
+          let k = word-kept (omega arith) in
+          let f = k .1 in
+          visited-fail words (k .0) le (omega arith)
 
-      module _ (none-kept : getD w at 0 ≡ 0) {w′ : List ℕ} {r : Visited} (c : Came given line w w′ live made top r (working (keepsIn given))) where
-        none-here : getD w (placeIn given line i x) 0 ≡ 0
-        none-here = rw is at none-kept
+      pub word-match : 1 < keptWord (lent [] (given .numbers)) line w i x → Came given line w w live made top (result (keptWord (lent [] (given .numbers)) line w i x - 2) (getD w (placeIn given line i x + 1) 0) top made) visiting
+      word-match lt =
+          let k = word-kept (omega arith) in
+          let f = k .1 in
+          rw f (visited-match words (k .0) le (getD w (placeIn given line i x) 0 - 2) (omega arith))
 
-        pub stop-at : r .end ≡ STOPPED → Came given line w w′ live made top r visiting
-        stop-at e = keep-stop words free le none-here c e
+      -- The node was applied, and its answer kept where answers are.
+      module _ (none-kept : keptWord (lent [] (given .numbers)) line w i x ≡ 0) {w′ : List ℕ} {end list top′ made′ : ℕ} (c : Came given line w w′ live made top (result end list top′ made′) (working (keepsIn given)))
+          (few : live * 3 ≤ 2042) (low : top′ ≤ allowanceIn given) {w″ : List ℕ} (kept : Kept (lent [] (given .numbers)) line w′ w″ i x end list) where
+        none-here : keepsIn given ≡ true → getD w (placeIn given line i x) 0 ≡ 0
+        unfolding keptWord
+        none-here q = rw q at none-kept
 
-        module _ (few : live * 3 ≤ 2046) (low : r .top ≤ allowanceIn given) {w″ : List ℕ} where
-          pub keep-fail-at : w″ ≡ pairPut w′ at 1 0 → r .end ≡ FAILED → Came given line w w″ live made top (result FAILED 0 (r .top) (r .made)) visiting
-          keep-fail-at q e = rw (q, is) (keep-fail words free le none-here c few low e)
+        by-end : keepsIn given ≡ true → (end ≡ STOPPED) ⊎ ((end ≡ FAILED) ⊎ (end < STOPPED)) → Came given line w w″ live made top (result end list top′ made′) visiting
+        by-end q (inl e) = rw (kept .stopped e) (keep-stop words q le (none-here q) c e)
+        by-end q (inr (inl e)) = came-failed given line (fit .short) 0 end list e (rw (kept .failed q e) (keep-fail words q le (none-here q) c few low e))
+        by-end q (inr (inr e)) = rw (kept .matched q e) (keep-match words q le (none-here q) c few low e)
 
-          pub keep-match-at : w″ ≡ pairPut w′ at (r .end + 2) (r .list) → r .end < STOPPED → Came given line w w″ live made top (result (r .end) (r .list) (r .top) (r .made)) visiting
-          keep-match-at q e = rw (q, is) (keep-match words free le none-here c few low e)
+        which : end ≤ FAILED → (end ≡ STOPPED) ⊎ ((end ≡ FAILED) ⊎ (end < STOPPED))
+        which h = by-same end STOPPED (λ e. inl e) (λ n. by-same end FAILED (λ e. inr (inl e)) (λ k. inr (inr (omega arith))))
+
+        pub applied-kept : Came given line w w″ live made top (result end list top′ made′) visiting
+        applied-kept = by-test (keepsIn given) refl
+          where
+            by-test : (b : Bool) → keepsIn given ≡ b → Came given line w w″ live made top (result end list top′ made′) visiting
+            by-test true q = by-end q (which (c .end-most))
+            by-test false q = rw (kept .idle q) (visited-plain q c)

@@ -7,3 +7,9 @@ pub mod Living
 pub mod Growing
 pub mod Ready
 pub mod ByKind
+pub mod Depth
+pub mod Adding
+pub mod Places
+pub mod Opening
+pub mod Pairs
+pub mod Attempts

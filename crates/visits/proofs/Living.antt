@@ -14,10 +14,9 @@ use Rattle.meaning.proofs.Notes.{look-same, look-other}
 use Rattle.meaning.proofs.Answers.{found}
 use Rattle.cells.specs.Cells.{treesAt}
 use Rattle.cells.proofs.Frame.{arena-same}
-use Rattle.visits.specs.declared.Visited.{Visited}
-use Rattle.visits.specs.Given.{nodesIn, keepsIn, baseIn, allowanceIn, pairsIn, roomIn, grammarIn, Fit}
+use Rattle.visits.specs.Given.{Given, nodesIn, keepsIn, baseIn, allowanceIn, pairsIn, roomIn, grammarIn, Fit}
 use Rattle.visits.specs.Words.{keyOf, HeldAs, Entry, Lives, Stands, Words, Same}
-use Rattle.visits.specs.Says.{FAILED, STOPPED, Says, Came}
+use Rattle.visits.specs.Says.{Visited, FAILED, STOPPED, Says, Came}
 use Rattle.visits.proofs.Frame.{same-then, same-trees, lives-same, stands-same}
 use Rattle.visits.proofs.Steps.{still}
 use Rattle.visits.proofs.Nodes.{result}
@@ -96,7 +95,7 @@ module _ (w : List ℕ) (p a b c : ℕ) where
         let e : p + 2 ≡ suc (suc p) = omega arith in
         rw e (getD-set-same (set (set w p a) (suc p) b) (suc (suc p)) c 0 (omega (arith, length-set w p a, length-set (set w p a) (suc p) b)))
 
-module _ (given line : List ℕ) (fit : Fit given line) where
+module _ (given : Given) (line : List ℕ) (fit : Fit given line) where
   abbrev pub uses : (List Note → Visit) → ℕ → ℕ → List Note → State → Run
   uses v a x l s = useRule (grammarIn given) line false v l a x s
 
@@ -155,7 +154,7 @@ module _ (given line : List ℕ) (fit : Fit given line) where
     }
 
     live-kept : (i : ℕ) → baseIn given ≤ i → getD entered i 0 ≡ getD w i 0
-    live-kept i h = let b = fit .base in use-other w (live * 3) (keyOf a x) end list i (omega arith) (omega arith) (omega arith)
+    live-kept i h = use-other w (live * 3) (keyOf a x) end list i (omega arith) (omega arith) (omega arith)
 
     lists-now : (i : ℕ) → i < live + 1 → getD entered (i * 3 + 2) 0 ≤ top
     lists-now i lt = by-same i live
@@ -236,5 +235,5 @@ module _ (given line : List ℕ) (fit : Fit given line) where
   while-live a x end list words few ends lists small q held fresh m e c = while-held a x end list words few ends lists small q held fresh m (rw e at c)
 
 -- A pair that isn't live stays so.
-pub fresh-same : (given line : List ℕ) {old new : List ℕ} {live top key : ℕ} → Same given line old new live top → ((i : ℕ) → i < live → getD old (i * 3) 0 ≢ key) → (i : ℕ) → i < live → getD new (i * 3) 0 ≢ key
+pub fresh-same : (given : Given) (line : List ℕ) {old new : List ℕ} {live top key : ℕ} → Same given line old new live top → ((i : ℕ) → i < live → getD old (i * 3) 0 ≢ key) → (i : ℕ) → i < live → getD new (i * 3) 0 ≢ key
 fresh-same given line s f i lt e = f i lt (sym (s .uses (i * 3) (omega arith)) ∙ e)

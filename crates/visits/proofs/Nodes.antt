@@ -11,12 +11,10 @@ use borrow.Author.Tests.{eq-eqb, ne-eqb}
 use Rattle.meaning.specs.Grammar.{Trees, no-trees, tree, _⋈_, Answer, fail, ok, wrap, fits, Note}
 use Rattle.meaning.specs.Reading.{State, Run, done, after, Visit, byte, joined, second, otherwise, denied, repeatFrom, repeated, wrapped}
 use Rattle.cells.specs.Cells.{treesAt}
-use Rattle.cells.specs.Arena.{Made}
 use Rattle.cells.proofs.Frame.{trees-none}
-use Rattle.visits.specs.declared.Visited.{Visited}
-use Rattle.visits.specs.Given.{allowanceIn, Fit}
-use Rattle.visits.specs.Words.{Stands, Words}
-use Rattle.visits.specs.Says.{FAILED, STOPPED, Says, Came}
+use Rattle.visits.specs.Given.{Given, allowanceIn, Fit}
+use Rattle.visits.specs.Words.{Added, Stands, Words}
+use Rattle.visits.specs.Says.{Visited, FAILED, STOPPED, Says, Came}
 use Rattle.visits.proofs.Frame.{same-trees}
 use Rattle.visits.proofs.Steps.{then-match, then-fail, stopped, unmatched, unfailed, came-as, still, came-made}
 
@@ -24,7 +22,7 @@ use Rattle.visits.proofs.Steps.{then-match, then-fail, stopped, unmatch
 abbrev pub result : (end list top made : ℕ) → Visited
 result end list top made = record { end = end; list = list; top = top; made = made }
 
-module _ (given line : List ℕ) (fit : Fit given line) where
+module _ (given : Given) (line : List ℕ) (fit : Fit given line) where
   -- A match of nothing, and a failure, with no word changed.
   module _ {w : List ℕ} {live made top : ℕ} (words : Words given line w live top) (le : made ≤ allowanceIn given) where
     pub match-still : (e : ℕ) → e ≤ length line → Came given line w w live made top (result e 0 top made) (λ l s. done (ok e no-trees) s)
@@ -48,12 +46,12 @@ module _ (given line : List ℕ) (fit : Fit given line) where
         unfolding second joined
         seq-second g = then-match given line (fit .short) (λ l. second (v l) y) A h (unmatched given line (fit .short) (λ l. joined (treesAt w₁ (a .list))) B g (λ l s. refl))
 
-        pub seq-join : b .end < STOPPED → live * 3 ≤ 2046 → b .top < allowanceIn given → {w₃ : List ℕ} {list top′ : ℕ}
-            → Made w₂ w₃ (b .top) list top′ (treesAt w₂ (a .list) ⋈ treesAt w₂ (b .list)) → Came given line w₀ w₃ live made top (result (b .end) list top′ (b .made)) sequence
+        pub seq-join : b .end < STOPPED → live * 3 ≤ 2042 → b .top < allowanceIn given → {w₃ : List ℕ} {list top′ : ℕ}
+            → Added w₂ w₃ (b .top) list top′ (treesAt w₂ (a .list) ⋈ treesAt w₂ (b .list)) → Came given line w₀ w₃ live made top (result (b .end) list top′ (b .made)) sequence
         unfolding second joined
         seq-join g few low {w₃} {list} {top′} m =
             let e : treesAt w₂ (a .list) ≡ treesAt w₁ (a .list) = same-trees given line (B .same) (a .list) (A .list-in h) in
-            let n : Made w₂ w₃ (b .top) list top′ (treesAt w₁ (a .list) ⋈ treesAt w₂ (b .list)) = rw e at m in
+            let n : Added w₂ w₃ (b .top) list top′ (treesAt w₁ (a .list) ⋈ treesAt w₂ (b .list)) = rw e at m in
             then-match given line (fit .short) (λ l. second (v l) y) A h
             (then-match given line (fit .short) (λ l. joined (treesAt w₁ (a .list))) B g
             (came-made given line (fit .short) (b .end) fit few low n (B .words) (B .made-in) (B .end-in g)))
@@ -120,12 +118,12 @@ module _ (given line : List ℕ) (fit : Fit given line) where
         unfolding joined
         rep-next g = on-from (unmatched given line (fit .short) (λ l. joined (treesAt w₁ (a .list))) B g (λ l s. refl))
 
-        pub rep-join : b .end < STOPPED → live * 3 ≤ 2046 → b .top < allowanceIn given → {w₃ : List ℕ} {list top′ : ℕ}
-            → Made w₂ w₃ (b .top) list top′ (treesAt w₂ (a .list) ⋈ treesAt w₂ (b .list)) → Came given line w₀ w₃ live made top (result (b .end) list top′ (b .made)) repeating
+        pub rep-join : b .end < STOPPED → live * 3 ≤ 2042 → b .top < allowanceIn given → {w₃ : List ℕ} {list top′ : ℕ}
+            → Added w₂ w₃ (b .top) list top′ (treesAt w₂ (a .list) ⋈ treesAt w₂ (b .list)) → Came given line w₀ w₃ live made top (result (b .end) list top′ (b .made)) repeating
         unfolding joined
         rep-join g few low {w₃} {list} {top′} m =
             let e : treesAt w₂ (a .list) ≡ treesAt w₁ (a .list) = same-trees given line (B .same) (a .list) (A .list-in h) in
-            let n : Made w₂ w₃ (b .top) list top′ (treesAt w₁ (a .list) ⋈ treesAt w₂ (b .list)) = rw e at m in
+            let n : Added w₂ w₃ (b .top) list top′ (treesAt w₁ (a .list) ⋈ treesAt w₂ (b .list)) = rw e at m in
             on-from
             (then-match given line (fit .short) (λ l. joined (treesAt w₁ (a .list))) B g
             (came-made given line (fit .short) (b .end) fit few low n (B .words) (B .made-in) (B .end-in g)))
@@ -139,8 +137,8 @@ module _ (given line : List ℕ) (fit : Fit given line) where
       unfolding wrapped wrap
       use-unmatched h = unmatched given line (fit .short) (λ l. wrapped rule pos) A h (λ l s. refl)
 
-      pub use-tree : a .end < STOPPED → live * 3 ≤ 2046 → a .top < allowanceIn given → {w₂ : List ℕ} {list top′ : ℕ}
-          → Made w₁ w₂ (a .top) list top′ (tree rule pos (a .end) (treesAt w₁ (a .list)) no-trees) → Came given line w₀ w₂ live made top (result (a .end) list top′ (a .made)) useFree
+      pub use-tree : a .end < STOPPED → live * 3 ≤ 2042 → a .top < allowanceIn given → {w₂ : List ℕ} {list top′ : ℕ}
+          → Added w₁ w₂ (a .top) list top′ (tree rule pos (a .end) (treesAt w₁ (a .list)) no-trees) → Came given line w₀ w₂ live made top (result (a .end) list top′ (a .made)) useFree
       unfolding wrapped wrap
       use-tree h few low m =
           then-match given line (fit .short) (λ l. wrapped rule pos) A h

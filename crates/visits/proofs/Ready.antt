@@ -4,19 +4,19 @@ use mathlib.Core.List.{List}
 use Prim.Native.Nat.{ℕ, suc, _+_, _*_, _<_, _≤_}
 use native.Mathlib.Omega.{arith}
 use lib.ListN.{length, getD}
-use Rattle.meaning.specs.Grammar.{empty, node, rootOf, Below, Note}
+use Rattle.meaning.specs.Grammar.{node, rootOf, Below, Note}
 use Rattle.meaning.specs.Reading.{State, Run, Visit, apply}
-use Rattle.sheet.specs.Table.{decode, each}
-use Rattle.sheet.proofs.Accepting.{length-each, getD-each}
-use Rattle.visits.specs.declared.Visited.{Visited}
-use Rattle.visits.specs.Given.{kindIn, aIn, bIn, rootIn, nodesIn, rulesIn, allowanceIn, grammarIn, Fit}
+use Rattle.sheet.specs.Table.{decode}
+use Rattle.sheet.proofs.Accepting.{well-formed, node-count, rule-count, closed}
+use Rattle.sheet.proofs.Accepting.{root-is as root-of-grammar, node-as as node-of-table}
+use Rattle.visits.specs.Given.{Given, kindIn, aIn, bIn, rootIn, nodesIn, rulesIn, allowanceIn, grammarIn, Fit}
 use Rattle.visits.specs.Words.{keyOf, Words}
-use Rattle.visits.specs.Says.{Ready, Came, reading, uses, applies}
+use Rattle.visits.specs.Says.{Visited, Ready, Came, reading, uses, applies}
 use Rattle.visits.proofs.Steps.{came-as}
 use Rattle.visits.proofs.Living.{usePut, live-words}
 use Rattle.visits.proofs.Growing.{Growing}
 
-module _ {given line : List ℕ} where
+module _ {given : Given} {line : List ℕ} where
   pub ready-next : {w w′ : List ℕ} {left live made top x pos : ℕ} {a : Visited} {m : List Note → State → Run} (y end : ℕ) → Ready given line w left live made top x pos → Came given line w w′ live made top a m
       → a .top + made ≤ top + a .made → y < nodesIn given → end ≤ length line → Ready given line w′ left live (a .made) (a .top) y end
   ready-next y end r c cells ly inside =
@@ -54,39 +54,22 @@ module _ {given line : List ℕ} where
   pub ready-at : {w : List ℕ} {left live made top i pos : ℕ} (j : ℕ) → Ready given line w left live made top i pos → j < nodesIn given → Ready given line w left live made top j pos
   ready-at j r lj = record { fit = r .fit; words = r .words; node-in = lj; pos-in = r .pos-in; open-in = r .open-in; made-in = r .made-in; top-in = r .top-in }
 
-module _ (given line : List ℕ) (fit : Fit given line) where
-  pub nodes-are : length (grammarIn given .nodes) ≡ nodesIn given
-  unfolding grammarIn
-  nodes-are = length-each _ 0 (nodesIn given)
-
+module _ (given : Given) (line : List ℕ) (fit : Fit given line) where
   pub rules-are : length (grammarIn given .roots) ≡ rulesIn given
-  unfolding grammarIn
-  rules-are = length-each _ 0 (rulesIn given)
+  rules-are = rule-count (given .table)
 
   pub root-is : (a : ℕ) → a < rulesIn given → rootIn given a ≡ rootOf (grammarIn given) a
-  unfolding grammarIn
-  root-is a h = let e : a ≡ 0 + a = omega arith in ap (rootIn given) e ∙ sym (getD-each (rootIn given) 0 (rulesIn given) a 0 h)
+  root-is a h = sym (root-of-grammar (given .table) a h)
 
   pub root-in : (a : ℕ) → a < rulesIn given → rootIn given a < nodesIn given
-  root-in a h =
-      let l : a < length (grammarIn given .roots) = rw rules-are h in
-      let r = fit .closed .roots a l in
-      let e = root-is a h in
-      let n = nodes-are in
-      omega arith
+  root-in a h = well-formed (given .table) (fit .accepted) .roots a h
 
   module _ (i k : ℕ) (li : i < nodesIn given) (is : kindIn given i ≡ k) where
-    -- What node i is, by its kind.
-    pub node-as : node (grammarIn given) i ≡ decode k (aIn given i) (bIn given i)
-    unfolding grammarIn
-    node-as =
-        let e : 0 + i ≡ i = omega arith in
-        getD-each (λ j. decode (kindIn given j) (aIn given j) (bIn given j)) 0 (nodesIn given) i empty li
-        ∙ ap (λ j. decode (kindIn given j) (aIn given j) (bIn given j)) e
-        ∙ ap (λ j. decode j (aIn given i) (bIn given i)) is
+    node-as : node (grammarIn given) i ≡ decode k (aIn given i) (bIn given i)
+    node-as = node-of-table (given .table) i li k is
 
     pub below-as : Below (grammarIn given) i (decode k (aIn given i) (bIn given i))
-    below-as = subst (Below (grammarIn given) i) node-as (fit .closed .nodes i (rw nodes-are li))
+    below-as = subst (Below (grammarIn given) i) node-as (closed (given .table) (fit .accepted) .nodes i (rw (node-count (given .table)) li))
 
     -- What its application is.
     pub applied-as : {w w′ : List ℕ} {live made top : ℕ} {r : Visited} (left pos : ℕ)

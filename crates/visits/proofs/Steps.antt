@@ -8,14 +8,12 @@ use lib.ListN.{length}
 use Rattle.meaning.specs.Grammar.{Trees, Answer, fail, ok, Note}
 use Rattle.meaning.specs.Reading.{State, Run, effort, deep, done, after}
 use Rattle.cells.specs.Cells.{treesAt}
-use Rattle.cells.specs.Arena.{Made}
-use Rattle.visits.specs.declared.Visited.{Visited}
-use Rattle.visits.specs.Given.{allowanceIn, Fit}
-use Rattle.visits.specs.Words.{Stands, Words, Same}
-use Rattle.visits.specs.Says.{FAILED, STOPPED, Refused, Failed, Matched, Says, Came}
+use Rattle.visits.specs.Given.{Given, allowanceIn, Fit}
+use Rattle.visits.specs.Words.{Added, Stands, Words, Same}
+use Rattle.visits.specs.Says.{Visited, FAILED, STOPPED, Refused, Failed, Matched, Says, Came}
 use Rattle.visits.proofs.Frame.{same-none, same-then, same-trees, stands-same, made-same, made-kept, made-words}
 
-module _ (given line : List ℕ) (short : length line ≤ 255) where
+module _ (given : Given) (line : List ℕ) (short : length line ≤ 255) where
   module _ (w : List ℕ) (live : ℕ) (l : List Note) (a : Visited) (k : Answer → State → Run) where
     -- The step matched: what follows a match follows.
     pub says-match : (w′ : List ℕ) (r : Visited) (m : Run) → Says given line w live l a m → a .end < STOPPED
@@ -146,7 +144,7 @@ module _ (given line : List ℕ) (short : length line ≤ 255) where
   }
 
   -- A match whose trees were made last.
-  pub came-made : {w w′ : List ℕ} {live made top list top′ : ℕ} {ts : Trees} (end : ℕ) → Fit given line → live * 3 ≤ 2046 → top < allowanceIn given → Made w w′ top list top′ ts
+  pub came-made : {w w′ : List ℕ} {live made top list top′ : ℕ} {ts : Trees} (end : ℕ) → Fit given line → live * 3 ≤ 2042 → top < allowanceIn given → Added w w′ top list top′ ts
       → Words given line w live top → made ≤ allowanceIn given → end ≤ length line
       → Came given line w w′ live made top (record { end = end; list = list; top = top′; made = made }) (λ l s. done (ok end ts) s)
   came-made end fit few low d h le inside = record {
@@ -160,3 +158,30 @@ module _ (given line : List ℕ) (short : length line ≤ 255) where
     made-in = le;
     says = λ l s g. (d .is, record { end = refl; inside = inside; stands = stands-same given line (made-same given line fit few low d) (made-kept given line fit low d) h g });
   }
+
+  -- The same result, by numbers that are equal to those it has.
+  pub came-at : {w w′ : List ℕ} {live made top end list top′ made′ : ℕ} {m : List Note → State → Run} (end₁ list₁ top₁ made₁ : ℕ) → end₁ ≡ end → list₁ ≡ list → top₁ ≡ top′ → made₁ ≡ made′
+      → Came given line w w′ live made top (record { end = end; list = list; top = top′; made = made′ }) m → Came given line w w′ live made top (record { end = end₁; list = list₁; top = top₁; made = made₁ }) m
+  came-at end₁ list₁ top₁ made₁ a b d e c = rw (a, b, d, e) c
+
+  -- The list of a failure says nothing.
+  failed-any : (w : List ℕ) (live top made list list′ : ℕ) (l : List Note) (m : Run) → Says given line w live l (record { end = FAILED; list = list; top = top; made = made }) m
+      → Says given line w live l (record { end = FAILED; list = list′; top = top; made = made }) m
+  failed-any w live top made list list′ l (effort p s) h = let z = h .end in absurd (omega arith)
+  failed-any w live top made list list′ l (deep p s) h = let z = h .end in absurd (omega arith)
+  failed-any w live top made list list′ l (done fail s) h = record { end = refl; stands = h .stands }
+  failed-any w live top made list list′ l (done (ok e ts) s) h = let z = h .1 .end in let i = h .1 .inside in absurd (omega arith)
+
+  pub came-failed : {w w′ : List ℕ} {live made top top′ made′ : ℕ} {m : List Note → State → Run} (list end list′ : ℕ) → end ≡ FAILED
+      → Came given line w w′ live made top (record { end = FAILED; list = list; top = top′; made = made′ }) m → Came given line w w′ live made top (record { end = end; list = list′; top = top′; made = made′ }) m
+  came-failed {w} {w′} {live} {made} {top} {top′} {made′} {m} list end list′ e c = rw e (record {
+    same = c .same;
+    words = c .words;
+    end-most = c .end-most;
+    end-in = c .end-in;
+    list-in = λ z. absurd (omega arith);
+    top-up = c .top-up;
+    made-up = c .made-up;
+    made-in = c .made-in;
+    says = λ l s h. failed-any w′ live top′ made′ list list′ l (m l s) (c .says l s h);
+  })

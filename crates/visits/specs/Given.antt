@@ -1,61 +1,77 @@
--- The table decoded for reading, in 581 words: a word a node, a word a rule for its root, then five numbers.
+-- What a reading is given: the table of the sheet, and three numbers, the allowance, whether answers are kept, and where the nodes start in the table.
 use Prim.Native.Nat.{ℕ, _+_, _*_, _/_, _%_, _<_, _≤_}
 use mathlib.Core.Path.{_≡_}
-use mathlib.Core.Bool.{Bool}
+use mathlib.Core.Bool.{Bool, false, cond}
 use mathlib.Core.List.{List}
 use lib.ListN.{length, getD}
-use lib.Dec.{ltb}
-use Rattle.meaning.specs.Grammar.{Grammar, Closed}
-use Rattle.sheet.specs.Table.{decode, each}
+use lib.Dec.{ltb, eqb}
+use Rattle.meaning.specs.Grammar.{Grammar}
+use Rattle.sheet.specs.Table.{nodesOf, rulesOf, rootOf, nodeAt, kindOf, aOf, bOf, grammarOf}
+use Rattle.sheet.specs.Check.{Accepted}
 
--- Node i in word i: kind, field a and field b.
-abbrev pub kindIn : List ℕ → ℕ → ℕ
-kindIn given i = getD given i 0 / 16777216
+pub record Given : Type 0 where
+  pub table : List ℕ
+  pub numbers : List ℕ
 
-abbrev pub aIn : List ℕ → ℕ → ℕ
-aIn given i = getD given i 0 / 4096 % 4096
+abbrev pub lent : List ℕ → List ℕ → Given
+lent table numbers = record { table = table; numbers = numbers }
 
-abbrev pub bIn : List ℕ → ℕ → ℕ
-bIn given i = getD given i 0 % 4096
+-- Node i: kind, field a and field b.
+abbrev pub kindIn : Given → ℕ → ℕ
+kindIn given i = kindOf (given .table) i
+
+abbrev pub aIn : Given → ℕ → ℕ
+aIn given i = aOf (given .table) i
+
+abbrev pub bIn : Given → ℕ → ℕ
+bIn given i = bOf (given .table) i
 
 -- The root of rule a.
-abbrev pub rootIn : List ℕ → ℕ → ℕ
-rootIn given a = getD given (512 + a) 0
+abbrev pub rootIn : Given → ℕ → ℕ
+rootIn given a = rootOf (given .table) a
 
-abbrev pub nodesIn : List ℕ → ℕ
-nodesIn given = getD given 576 0
+abbrev pub nodesIn : Given → ℕ
+nodesIn given = nodesOf (given .table)
 
-abbrev pub rulesIn : List ℕ → ℕ
-rulesIn given = getD given 577 0
+abbrev pub rulesIn : Given → ℕ
+rulesIn given = rulesOf (given .table)
+
+abbrev pub grammarIn : Given → Grammar
+grammarIn given = grammarOf (given .table)
+
+abbrev pub allowanceIn : Given → ℕ
+allowanceIn given = getD (given .numbers) 0 0
 
 -- 1 where answers are kept, else 0.
-abbrev pub keepsIn : List ℕ → Bool
-keepsIn given = ltb 0 (getD given 578 0)
+abbrev pub keepsIn : Given → Bool
+keepsIn given = ltb 0 (getD (given .numbers) 1 0)
+
+-- The node is a range, and nothing is kept.
+unfoldable pub plainRange : Given → ℕ → Bool
+plainRange given i = cond (keepsIn given) false (eqb (kindIn given i) 1)
 
 -- The first word of the kept answers.
-abbrev pub baseIn : List ℕ → ℕ
-baseIn given = getD given 579 0
-
-abbrev pub allowanceIn : List ℕ → ℕ
-allowanceIn given = getD given 580 0
-
--- The grammar that is decoded.
-unfoldable pub grammarIn : List ℕ → Grammar
-grammarIn given = record { nodes = each (λ i. decode (kindIn given i) (aIn given i) (bIn given i)) 0 (nodesIn given); roots = each (rootIn given) 0 (rulesIn given) }
+abbrev pub baseIn : Given → ℕ
+baseIn given = 2048 + 4 * allowanceIn given
 
 -- Pairs of a node and a position.
-abbrev pub pairsIn : List ℕ → List ℕ → ℕ
+abbrev pub pairsIn : Given → List ℕ → ℕ
 pairsIn given line = nodesIn given * (length line + 1)
 
 -- 01: "2,048 + 4 x allowance + 2 x n x (L + 1)".
-abbrev pub roomIn : List ℕ → List ℕ → ℕ
+abbrev pub roomIn : Given → List ℕ → ℕ
 roomIn given line = 2048 + 4 * allowanceIn given + 2 * pairsIn given line
 
--- What the check promises of the decoded table, and what the numbers are.
-pub record Fit (given line : List ℕ) : Type 0 where
-  pub closed : Closed (grammarIn given)
-  pub nodes : nodesIn given ≤ 512
-  pub rules : rulesIn given ≤ 64
+-- What the check promises of the table, and how large the others are.
+pub record Fit (given : Given) (line : List ℕ) : Type 0 where
+  pub accepted : Accepted (given .table)
+  pub first : getD (given .numbers) 2 0 ≡ nodeAt (rulesIn given) 0
   pub short : length line ≤ 255
   pub allowance : allowanceIn given ≤ 1000000
-  pub base : baseIn given ≡ 2048 + 4 * allowanceIn given
+
+-- A visit's number of open visits left, and of live uses, which are passed as one number.
+abbrev pub leftIn : ℕ → ℕ
+leftIn depth = depth % 1024
+
+abbrev pub liveIn : ℕ → ℕ
+liveIn depth = depth / 1024

@@ -1,5 +1,5 @@
 -- What the functions of a visit ask, and what their results say of the reading.
-use Prim.Native.Nat.{ℕ, _+_, _*_, _<_, _≤_}
+use Prim.Native.Nat.{ℕ, _+_, _*_, _/_, _%_, _<_, _≤_}
 use mathlib.Core.Path.{_≡_}
 use mathlib.Core.List.{List}
 use lib.ListN.{length}
@@ -7,25 +7,24 @@ use mathlib.Core.Bool.{false}
 use Rattle.meaning.specs.Grammar.{Answer, fail, ok, Note, node}
 use Rattle.meaning.specs.Reading.{State, Run, effort, deep, done, Visit, apply, useRule, visited, visit}
 use Rattle.cells.specs.Cells.{treesAt}
-use Rattle.visits.specs.declared.Visited.{Visited}
-use Rattle.visits.specs.Given.{nodesIn, keepsIn, allowanceIn, grammarIn, Fit}
-use Rattle.visits.specs.Words.{Stands, Words, Same}
+use Rattle.visits.specs.Given.{Given, nodesIn, keepsIn, allowanceIn, grammarIn, Fit, leftIn, liveIn}
+use Rattle.visits.specs.Words.{topIn, madeIn, Stands, Words, Same}
 
--- The reading that the functions follow, by the decoded table: a visit with so many open visits left, a use of a rule, a use that becomes
+-- The reading that the functions follow: a visit with so many open visits left, a use of a rule, a use that becomes
 -- live, a node's application, and a visit that is counted and open.
-abbrev pub reading : List ℕ → List ℕ → ℕ → List Note → Visit
+abbrev pub reading : Given → List ℕ → ℕ → List Note → Visit
 reading given line left = visit (grammarIn given) line (keepsIn given) left
 
-abbrev pub uses : List ℕ → List ℕ → ℕ → List Note → Visit
+abbrev pub uses : Given → List ℕ → ℕ → List Note → Visit
 uses given line left = useRule (grammarIn given) line (keepsIn given) (reading given line left)
 
-abbrev pub grows : List ℕ → List ℕ → ℕ → List Note → Visit
+abbrev pub grows : Given → List ℕ → ℕ → List Note → Visit
 grows given line left = useRule (grammarIn given) line false (reading given line left)
 
-abbrev pub applies : List ℕ → List ℕ → ℕ → List Note → Visit
+abbrev pub applies : Given → List ℕ → ℕ → List Note → Visit
 applies given line left l i x s = apply line (reading given line left l) (uses given line left l) i x s (node (grammarIn given) i)
 
-abbrev pub opens : List ℕ → List ℕ → ℕ → List Note → Visit
+abbrev pub opens : Given → List ℕ → ℕ → List Note → Visit
 opens given line left = visited (grammarIn given) line (keepsIn given) (reading given line left)
 
 -- The ends that are no position.
@@ -40,8 +39,25 @@ unfoldable pub endOf : Answer → ℕ
 endOf fail = FAILED
 endOf (ok e ts) = e
 
+-- What a visit answers, in one number: where it ends, and the list of its trees (or the refusal).
+abbrev pub endIn : ℕ → ℕ
+endIn r = r % 4294967296
+
+abbrev pub listIn : ℕ → ℕ
+listIn r = r / 4294967296
+
+-- The answer with what the words say after it: the cells in use, the visits made.
+pub record Visited : Type 0 where
+  pub end : ℕ
+  pub list : ℕ
+  pub top : ℕ
+  pub made : ℕ
+
+abbrev pub after-visit : ℕ → List ℕ → Visited
+after-visit r w = record { end = endIn r; list = listIn r; top = topIn w; made = madeIn w }
+
 -- A visit may start.
-pub record Ready (given line w : List ℕ) (left live made top node pos : ℕ) : Type 0 where
+pub record Ready (given : Given) (line w : List ℕ) (left live made top node pos : ℕ) : Type 0 where
   pub fit : Fit given line
   pub words : Words given line w live top
   pub node-in : node < nodesIn given
@@ -51,30 +67,30 @@ pub record Ready (given line w : List ℕ) (left live made top node pos : ℕ) :
   pub top-in : top ≤ made
 
 -- A refusal with its code, at a position.
-pub record Refused (given : List ℕ) (r : Visited) (code place : ℕ) (s : State) : Type 0 where
+pub record Refused (given : Given) (r : Visited) (code place : ℕ) (s : State) : Type 0 where
   pub end : r .end ≡ STOPPED
   pub list : r .list ≡ code * 4096 + place
   pub small : place < 4096
   pub left : s .left + r .made ≡ allowanceIn given
 
-pub record Failed (given line w : List ℕ) (live : ℕ) (l : List Note) (r : Visited) (s : State) : Type 0 where
+pub record Failed (given : Given) (line w : List ℕ) (live : ℕ) (l : List Note) (r : Visited) (s : State) : Type 0 where
   pub end : r .end ≡ FAILED
   pub stands : Stands given line w live (r .made) l s
 
-pub record Matched (given line w : List ℕ) (live : ℕ) (l : List Note) (r : Visited) (a : ℕ) (s : State) : Type 0 where
+pub record Matched (given : Given) (line w : List ℕ) (live : ℕ) (l : List Note) (r : Visited) (a : ℕ) (s : State) : Type 0 where
   pub end : r .end ≡ a
   pub inside : a ≤ length line
   pub stands : Stands given line w live (r .made) l s
 
 -- A result says how a run ends.
-abbrev pub Says : (given line w : List ℕ) (live : ℕ) (l : List Note) (r : Visited) → Run → Type 0
+abbrev pub Says : (given : Given) (line w : List ℕ) (live : ℕ) (l : List Note) (r : Visited) → Run → Type 0
 Says given line w live l r (effort p s) = Refused given r 11 p s
 Says given line w live l r (deep p s) = Refused given r 12 p s
 Says given line w live l r (done fail s) = Failed given line w live l r s
 Says given line w live l r (done (ok e ts) s) = (treesAt w (r .list) ≡ ts) × Matched given line w live l r e s
 
 -- From the words old a step came to the words new and a result, which says how the run m ends.
-pub record Came (given line old new : List ℕ) (live made top : ℕ) (r : Visited) (m : List Note → State → Run) : Type 0 where
+pub record Came (given : Given) (line old new : List ℕ) (live made top : ℕ) (r : Visited) (m : List Note → State → Run) : Type 0 where
   pub same : Same given line old new live top
   pub words : Words given line new live (r .top)
   pub end-most : r .end ≤ FAILED
@@ -86,11 +102,21 @@ pub record Came (given line old new : List ℕ) (live made top : ℕ) (r : Visit
   pub says : (l : List Note) (s : State) → Stands given line old live made l s → Says given line new live l r (m l s)
 
 -- What a node's application comes to makes no more cells than visits; a visit that matches makes fewer.
-pub record Applied (given line old new : List ℕ) (live made top : ℕ) (r : Visited) (m : List Note → State → Run) : Type 0 where
+pub record Applied (given : Given) (line old new : List ℕ) (live made top : ℕ) (r : Visited) (m : List Note → State → Run) : Type 0 where
   pub came : Came given line old new live made top r m
   pub cells : r .top + made ≤ top + r .made
 
-pub record Visits (given line old new : List ℕ) (live made top : ℕ) (r : Visited) (m : List Note → State → Run) : Type 0 where
+pub record Visits (given : Given) (line old new : List ℕ) (live made top : ℕ) (r : Visited) (m : List Note → State → Run) : Type 0 where
   pub came : Came given line old new live made top r m
   pub cells : r .top + made ≤ top + r .made
   pub fewer : r .end < STOPPED → r .top + made < top + r .made
+
+-- The same, where the numbers stand in the words and in what is passed.
+abbrev pub Starts : (given : Given) (line w : List ℕ) (depth node pos : ℕ) → Type 0
+Starts given line w depth node pos = Ready given line w (leftIn depth) (liveIn depth) (madeIn w) (topIn w) node pos
+
+abbrev pub Ends : (given : Given) (line old new : List ℕ) (depth r : ℕ) (m : List Note → State → Run) → Type 0
+Ends given line old new depth r m = Applied given line old new (liveIn depth) (madeIn old) (topIn old) (after-visit r new) m
+
+abbrev pub EndsVisit : (given : Given) (line old new : List ℕ) (depth r : ℕ) (m : List Note → State → Run) → Type 0
+EndsVisit given line old new depth r m = Visits given line old new (liveIn depth) (madeIn old) (topIn old) (after-visit r new) m

@@ -1,16 +1,18 @@
--- What the working numbers stand for: live uses from word 0 on, three words each; cells of trees; kept answers, two words a pair.
+-- What the working numbers stand for: live uses from word 0 on, three words each; how many cells are in use and how many visits are made; cells
+-- of trees; kept answers, two words a pair.
 use Prim.Native.Nat.{ℕ, zero, suc, _+_, _-_, _*_, _<_, _≤_}
 use mathlib.Core.Path.{_≡_}
 use mathlib.Core.Logic.{_≢_}
-use mathlib.Core.Bool.{true}
+use mathlib.Core.Bool.{true, false, cond}
 use mathlib.Core.List.{List, [], _∷_}
 use mathlib.Core.Option.{Option, none, some}
 use lib.ListN.{length, getD}
+use lib.Seq.{sets}
 use Rattle.meaning.specs.Grammar.{Trees, no-trees, tree, Answer, fail, ok, Note, look}
 use Rattle.meaning.specs.Reading.{State}
 use Rattle.cells.specs.Cells.{treesAt}
 use Rattle.cells.specs.Arena.{Arena}
-use Rattle.visits.specs.Given.{nodesIn, keepsIn, baseIn, allowanceIn, pairsIn, roomIn}
+use Rattle.visits.specs.Given.{Given, nodesIn, keepsIn, baseIn, allowanceIn, pairsIn, roomIn}
 
 -- A pair of a rule and a position as one number.
 abbrev pub keyOf : ℕ → ℕ → ℕ
@@ -32,8 +34,15 @@ abbrev pub Lives : List ℕ → ℕ → List Note → Type 0
 Lives w live [] = live ≡ 0
 Lives w live (n ∷ l) = (k : ℕ) × (live ≡ k + 1) × Entry w k n × (look l (n .number) (n .position) ≡ none) × Lives w k l
 
+-- Cells in use, and visits made.
+abbrev pub topIn : List ℕ → ℕ
+topIn w = getD w 2042 0
+
+abbrev pub madeIn : List ℕ → ℕ
+madeIn w = getD w 2043 0
+
 -- Where the answer of a pair is kept.
-abbrev pub placeIn : List ℕ → List ℕ → ℕ → ℕ → ℕ
+abbrev pub placeIn : Given → List ℕ → ℕ → ℕ → ℕ
 placeIn given line i x = baseIn given + (i * (length line + 1) + x) * 2
 
 -- A kept answer by its words: 0 none, 1 a failure, e + 2 a match that ends at e; and the list of its trees.
@@ -46,13 +55,13 @@ abbrev pub keptAt : List ℕ → ℕ → Option Answer
 keptAt w p = keptAs (getD w p 0) (treesAt w (getD w (p + 1) 0))
 
 -- What the words stand for, where so many visits are made: the live uses l, and the state s.
-pub record Stands (given line w : List ℕ) (live made : ℕ) (l : List Note) (s : State) : Type 0 where
+pub record Stands (given : Given) (line w : List ℕ) (live made : ℕ) (l : List Note) (s : State) : Type 0 where
   pub lives : Lives w live l
   pub left : s .left + made ≡ allowanceIn given
   pub kept : keepsIn given ≡ true → (i x : ℕ) → i < nodesIn given → x ≤ length line → look (s .kept) i x ≡ keptAt w (placeIn given line i x)
 
 -- The words are in order: there is room, lists lie below top, ends lie inside the line.
-pub record Words (given line w : List ℕ) (live top : ℕ) : Type 0 where
+pub record Words (given : Given) (line w : List ℕ) (live top : ℕ) : Type 0 where
   pub room : roomIn given line ≤ length w
   pub arena : Arena w top
   pub held-lists : (i : ℕ) → i < live → getD w (i * 3 + 2) 0 ≤ top
@@ -61,9 +70,9 @@ pub record Words (given line w : List ℕ) (live top : ℕ) : Type 0 where
   pub kept-ends : keepsIn given ≡ true → (j : ℕ) → j < pairsIn given line → getD w (baseIn given + j * 2) 0 ≤ length line + 2
 
 -- The words that a visit leaves as they are: those of the live uses, of the cells below top, and all past the room.
-pub record Same (given line old new : List ℕ) (live top : ℕ) : Type 0 where
+pub record Same (given : Given) (line old new : List ℕ) (live top : ℕ) : Type 0 where
   pub uses : (i : ℕ) → i < live * 3 → getD new i 0 ≡ getD old i 0
-  pub cells : (i : ℕ) → 2046 ≤ i → i < 2048 + 4 * top → getD new i 0 ≡ getD old i 0
+  pub cells : (i : ℕ) → 2045 ≤ i → i < 2048 + 4 * top → getD new i 0 ≡ getD old i 0
   pub past : (i : ℕ) → roomIn given line ≤ i → getD new i 0 ≡ getD old i 0
 
 -- A search for the live use with a key found entry r - 1, or none where r is 0.
@@ -71,3 +80,33 @@ pub record Found (w : List ℕ) (live key r : ℕ) : Type 0 where
   pub within : r ≤ live
   pub is : 0 < r → getD w ((r - 1) * 3) 0 ≡ key
   pub none : r ≡ 0 → (i : ℕ) → i < live → getD w (i * 3) 0 ≢ key
+
+-- A list that stands for given trees was made with at most one cell, at top; beside it only the word of the cells in use changed.
+pub record Added (old new : List ℕ) (top list top′ : ℕ) (ts : Trees) : Type 0 where
+  pub rise : top ≤ top′
+  pub one : top′ ≤ top + 1
+  pub within : list ≤ top′
+  pub is : treesAt new list ≡ ts
+  pub arena : Arena new top′
+  pub long : length new ≡ length old
+  pub below : (i : ℕ) → i < 2048 + 4 * top → i ≢ 2042 → getD new i 0 ≡ getD old i 0
+  pub above : (i : ℕ) → 2048 + 4 * top′ ≤ i → getD new i 0 ≡ getD old i 0
+
+-- There is room for the kept answer of a pair, and its place is a small number.
+pub record Roomy (given : Given) (line w : List ℕ) (i x : ℕ) : Type 0 where
+  pub short : length line ≤ 255
+  pub allowance : allowanceIn given ≤ 1000000
+  pub node-in : i < 512
+  pub pos-in : x ≤ length line
+  pub room : placeIn given line i x + 1 < length w
+
+-- The word that is kept for a pair, 0 where nothing is.
+unfoldable pub keptWord : Given → List ℕ → List ℕ → ℕ → ℕ → ℕ
+keptWord given line w i x = cond (keepsIn given) (getD w (placeIn given line i x) 0) 0
+
+-- What is kept once a pair is finished, where answers are kept: a failure, or the end and the list of a match.
+pub record Kept (given : Given) (line old new : List ℕ) (i x end list : ℕ) : Type 0 where
+  pub idle : keepsIn given ≡ false → new ≡ old
+  pub stopped : end ≡ 65534 → new ≡ old
+  pub failed : keepsIn given ≡ true → end ≡ 65535 → new ≡ sets old (placeIn given line i x) (1 ∷ 0 ∷ [])
+  pub matched : keepsIn given ≡ true → end < 65534 → new ≡ sets old (placeIn given line i x) ((end + 2) ∷ list ∷ [])

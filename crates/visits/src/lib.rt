@@ -1,32 +1,28 @@
 // Visits: the reading of a line over lent working numbers, visit by visit, as 01's "How a line is read" has it.
 //
-// A visit is lent the decoded table (given, 581 words, see specs/Given), the line and the working numbers, and answers by four numbers: where it
-// ends (or FAILED, or STOPPED by a refusal), the list of its trees, how many cells are in use, how many visits are made.
-// specs/Words says what the working numbers stand for: the live uses (three words each from word 0 on), the cells of trees, and the kept
-// answers (two words for each pair of a node and a position).
-// The promise of each function (specs/Says): from words that stand for live uses and a state, the result and the words it leaves say how the
+// A visit is lent three numbers (given: see specs/Given), the table, the line and the working numbers. What it answers
+// is one number: where it ends (or FAILED, or STOPPED by a refusal) in the lower half, the list of its trees (or the refusal) in the upper.
+// specs/Words says what the working numbers stand for: the live uses (three words each from word 0 on), the number of cells in use and of visits
+// made (words 2042 and 2043), the cells of trees, and the kept answers (two words for each pair of a node and a position).
+// The promise of each function (specs/Says): from words that stand for live uses and a state, the answer and the words it leaves say how the
 // reading of crate meaning ends from there: the answer with its trees, the state handed on, or the refusal with its place.
-// The visit calls itself for children and roots; the open visits left is the number that falls.
+// The visit calls itself for children and roots; the open visits left is the number that falls. It passes references to the slices, not the
+// slices, so that a call costs no copy of them; so each function says too that the working numbers it was lent are the ones that it gives back.
 ghost use mathlib.Core.Path.{_≡_};
 ghost use mathlib.Core.Logic.{_≢_};
-ghost use mathlib.Core.Bool.{true};
 ghost use mathlib.Core.List.{List, [], _∷_};
 ghost use Prim.Native.Nat.{ℕ, _+_, _*_, _/_, _%_, _<_, _≤_};
 ghost use lib.ListN.{length, getD};
 ghost use lib.Seq.{sets};
-ghost use Rattle.meaning.specs.Grammar.{fits, Note};
+ghost use Rattle.meaning.specs.Grammar.{no-trees, tree, _⋈_, fits, Note};
 ghost use Rattle.meaning.specs.Reading.{State, byte, after, second, otherwise, denied, repeated, wrapped};
-ghost use Rattle.visits.specs.Given.{nodesIn, rulesIn, rootIn, keepsIn, Fit};
-ghost use Rattle.visits.specs.Words.{keyOf, placeIn, Found};
-ghost use Rattle.visits.specs.Says.{reading, uses, grows, applies, opens, endOf, Ready, Applied, Visits};
-
-// Where a visit ends, the list of its trees (or the refusal), the cells in use, the visits made.
-pub struct Visited {
-    pub end: u32,
-    pub list: u32,
-    pub top: u32,
-    pub made: u32,
-}
+ghost use Rattle.sheet.specs.Table.{nodesOf, rulesOf, rootOf, nodeAt, kindOf, aOf, bOf};
+ghost use Rattle.sheet.specs.Check.{Accepted};
+ghost use Rattle.cells.specs.Cells.{treesAt};
+ghost use Rattle.cells.specs.Arena.{Arena};
+ghost use Rattle.visits.specs.Given.{lent, nodesIn, rulesIn, rootIn, plainRange, leftIn, liveIn};
+ghost use Rattle.visits.specs.Words.{keyOf, topIn, madeIn, placeIn, Added, Roomy, keptWord, Kept, Found};
+ghost use Rattle.visits.specs.Says.{reading, uses, grows, applies, opens, endOf, endIn, listIn, Starts, Ends, EndsVisit};
 
 // The ends that are no position.
 pub const FAILED: u32 = 65535;
@@ -39,22 +35,62 @@ fn wide(x: u8) -> u32
     x as u32
 }
 
-fn kind_in(word: u32) -> u32
-    ensures { λ r. ⌜ r ≡ word / 16777216 ⌝ }
+// An answer by where it ends and its list.
+fn answer(end: u32, list: u32) -> u64
+    ensures { λ r. ⌜ (endIn r ≡ end) × (listIn r ≡ list) ⌝ }
 {
-    word / 16777216
+    list as u64 * 4294967296 + end as u64
 }
 
-fn a_in(word: u32) -> u32
-    ensures { λ r. ⌜ (r ≡ word / 4096 % 4096) × (r < 4096) ⌝ }
+pub fn end_of(answer: u64) -> u32
+    ensures { λ r. ⌜ r ≡ endIn answer ⌝ }
 {
-    word / 4096 % 4096
+    (answer % 4294967296) as u32
 }
 
-fn b_in(word: u32) -> u32
-    ensures { λ r. ⌜ (r ≡ word % 4096) × (r < 4096) ⌝ }
+pub fn list_of(answer: u64) -> u32
+    ensures { λ r. ⌜ r ≡ listIn answer ⌝ }
 {
-    word % 4096
+    (answer / 4294967296) as u32
+}
+
+fn kind_of(given: &[u32; 3], table: &[u8], node: u32) -> u32
+    requires { ⌜ Accepted (now table) × ((node < nodesOf (now table)) × (getD (now given) 2 0 ≡ nodeAt (rulesOf (now table)) 0)) ⌝ }
+    ensures { λ r. ⌜ (r ≡ kindOf (now (table .entry)) node) × (r < 7) ⌝ }
+{
+    sheet::kind_from(table, given[2] as usize, node as usize) as u32
+}
+
+fn a_of(given: &[u32; 3], table: &[u8], node: u32) -> u32
+    requires { ⌜ Accepted (now table) × ((node < nodesOf (now table)) × (getD (now given) 2 0 ≡ nodeAt (rulesOf (now table)) 0)) ⌝ }
+    ensures { λ r. ⌜ (r ≡ aOf (now (table .entry)) node) × (r < 512) ⌝ }
+{
+    sheet::field_a_from(table, given[2] as usize, node as usize) as u32
+}
+
+fn b_of(given: &[u32; 3], table: &[u8], node: u32) -> u32
+    requires { ⌜ Accepted (now table) × ((node < nodesOf (now table)) × (getD (now given) 2 0 ≡ nodeAt (rulesOf (now table)) 0)) ⌝ }
+    ensures { λ r. ⌜ (r ≡ bOf (now (table .entry)) node) × (r < 512) ⌝ }
+{
+    sheet::field_b_from(table, given[2] as usize, node as usize) as u32
+}
+
+// Whether the node is a range, and nothing is kept: such a visit is answered at once.
+fn plain_range(given: &[u32; 3], table: &[u8], node: u32) -> bool
+    requires { ⌜ Accepted (now table) × ((node < nodesOf (now table)) × (getD (now given) 2 0 ≡ nodeAt (rulesOf (now table)) 0)) ⌝ }
+    ensures { λ r. ⌜ r ≡ plainRange (lent (now (table .entry)) (now (given .entry))) node ⌝ }
+{
+    if given[1] != 0 {
+        return false;
+    }
+    kind_of(given, table, node) == 1
+}
+
+fn root_of(table: &[u8], rule: u32) -> u32
+    requires { ⌜ Accepted (now table) × (rule < rulesOf (now table)) ⌝ }
+    ensures { λ r. ⌜ (r ≡ rootOf (now (table .entry)) rule) × (r < nodesOf (now (table .entry))) ⌝ }
+{
+    sheet::root(table, rule as usize) as u32
 }
 
 // Where a byte in a range ends at a position, or FAILED.
@@ -74,6 +110,23 @@ fn range_end(line: &[u8], lowest: u32, highest: u32, pos: u32) -> u32
     FAILED
 }
 
+// Makes ready for the first visit: no cell is in use, no visit is made.
+pub fn no_visits(work: &mut [u32])
+    requires { ⌜ 2048 ≤ length (now work) ⌝ }
+    ensures { λ _. ⌜ now (work .exit) ≡ sets (now (work .entry)) 2042 (0 ∷ 0 ∷ []) ⌝ }
+{
+    work[2042] = 0;
+    work[2043] = 0;
+}
+
+// How many visits are made.
+pub fn visits_made(work: &[u32]) -> u32
+    requires { ⌜ 2048 ≤ length (now work) ⌝ }
+    ensures { λ r. ⌜ r ≡ madeIn (now (work .entry)) ⌝ }
+{
+    work[2043]
+}
+
 // Writes a live use.
 fn put_use(work: &mut [u32], live: u32, key: u32, end: u32, list: u32)
     requires { ⌜ (live * 3 + 2 < length (now work)) × (live ≤ 512) ⌝ }
@@ -86,9 +139,9 @@ fn put_use(work: &mut [u32], live: u32, key: u32, end: u32, list: u32)
 }
 
 // The live use of a pair, plus 1, or 0; at most one can fit. The search runs from the oldest.
-fn find_use(work: &[u32], live: u32, key: u32) -> u32
-    requires { ⌜ (live * 3 ≤ length (now work)) × (live ≤ 513) ⌝ }
-    ensures { λ r. ⌜ Found (now (work .entry)) live key r ⌝ }
+fn find_use(work: &mut &mut [u32], live: u32, key: u32) -> u32
+    requires { ⌜ (live * 3 ≤ length (now (now work))) × (live ≤ 513) ⌝ }
+    ensures { λ r. ⌜ Found (now (now (work .entry))) live key r × (now (work .exit) ≡ now (work .entry)) ⌝ }
 {
     let mut i: u32 = 0;
     while i < live {
@@ -101,15 +154,72 @@ fn find_use(work: &[u32], live: u32, key: u32) -> u32
     0
 }
 
-// Where the answer of a pair is kept.
-fn kept_at(given: &[u32; 581], line: &[u8], node: u32, pos: u32) -> usize
-    requires { ⌜ Fit (now given) (now line) × ((node < nodesIn (now given)) × (pos ≤ length (now line))) ⌝ }
-    ensures { λ r. ⌜ r ≡ placeIn (now (given .entry)) (now (line .entry)) node pos ⌝ }
+// Joins two lists of trees, behind an end.
+fn joined(work: &mut [u32], end: u32, left: u32, right: u32) -> u64
+    requires arena { ⌜ Arena (now work) (topIn (now work)) × ((left ≤ topIn (now work)) × (right ≤ topIn (now work))) ⌝ }
+    requires room { ⌜ (2048 + 4 * topIn (now work) + 3 < length (now work)) × (topIn (now work) < 1073741823) ⌝ }
+    ensures { λ r. ⌜ (endIn r ≡ end) × Added (now (work .entry)) (now (work .exit)) (topIn (now (work .entry))) (listIn r) (topIn (now (work .exit))) (treesAt (now (work .entry)) left ⋈ treesAt (now (work .entry)) right) ⌝ }
 {
-    given[579] as usize + (node as usize * (line.len() + 1) + pos as usize) * 2
+    let top = work[2042];
+    let held = cells::join(work, top, left, right);
+    work[2042] = held.top;
+    answer(end, held.list)
 }
 
-// Keeps the answer of a pair.
+// Makes one tree of a rule over its children, and gives its list.
+fn planted(work: &mut [u32], rule: u32, start: u32, end: u32, children: u32) -> u32
+    requires arena { ⌜ Arena (now work) (topIn (now work)) × (children ≤ topIn (now work)) ⌝ }
+    requires room { ⌜ (2048 + 4 * topIn (now work) + 3 < length (now work)) × (topIn (now work) < 1073741823) ⌝ }
+    requires small { ⌜ (rule < 64) × ((start < 4096) × (end < 4096)) ⌝ }
+    ensures added { λ r. ⌜ Added (now (work .entry)) (now (work .exit)) (topIn (now (work .entry))) r (topIn (now (work .exit))) (tree rule start end (treesAt (now (work .entry)) children) no-trees) ⌝ }
+    ensures list { λ r. ⌜ (r ≡ topIn (now (work .entry)) + 1) × (topIn (now (work .exit)) ≡ r) ⌝ }
+{
+    let top = work[2042];
+    cells::put_tree(work, top, rule, start, end, children);
+    work[2042] = top + 1;
+    top + 1
+}
+
+// Where the answer of a pair is kept.
+fn kept_at(given: &[u32; 3], line: &[u8], node: u32, pos: u32) -> usize
+    requires { ⌜ (length (now line) ≤ 255) × ((getD (now given) 0 0 ≤ 1000000) × ((node < 512) × (pos ≤ length (now line)))) ⌝ }
+    ensures { λ r. ⌜ r ≡ placeIn (lent [] (now (given .entry))) (now (line .entry)) node pos ⌝ }
+{
+    2048 + 4 * given[0] as usize + (node as usize * (line.len() + 1) + pos as usize) * 2
+}
+
+// The word that is kept for a pair, 0 where nothing is.
+fn kept_word(given: &[u32; 3], line: &[u8], work: &mut &mut [u32], node: u32, pos: u32) -> u32
+    requires { ⌜ Roomy (lent [] (now given)) (now line) (now (now work)) node pos ⌝ }
+    ensures { λ r. ⌜ (r ≡ keptWord (lent [] (now (given .entry))) (now (line .entry)) (now (now (work .entry))) node pos) × (now (work .exit) ≡ now (work .entry)) ⌝ }
+{
+    if given[1] == 0 {
+        return 0;
+    }
+    let at = kept_at(given, line, node, pos);
+    work[at]
+}
+
+// Keeps the answer of a finished pair, where answers are kept.
+fn keep(given: &[u32; 3], line: &[u8], work: &mut [u32], node: u32, pos: u32, end: u32, list: u32)
+    requires { ⌜ Roomy (lent [] (now given)) (now line) (now work) node pos × (end ≤ 65535) ⌝ }
+    ensures { λ _. ⌜ Kept (lent [] (now (given .entry))) (now (line .entry)) (now (work .entry)) (now (work .exit)) node pos end list ⌝ }
+{
+    if given[1] == 0 {
+        return;
+    }
+    if end == STOPPED {
+        return;
+    }
+    let at = kept_at(given, line, node, pos);
+    if end == FAILED {
+        put_kept(work, at, 1, 0);
+        return;
+    }
+    put_kept(work, at, end + 2, list);
+}
+
+// Keeps two words.
 fn put_kept(work: &mut [u32], at: usize, word: u32, list: u32)
     requires { ⌜ at + 1 < length (now work) ⌝ }
     ensures { λ _. ⌜ now (work .exit) ≡ sets (now (work .entry)) at (word ∷ list ∷ []) ⌝ }
@@ -119,456 +229,388 @@ fn put_kept(work: &mut [u32], at: usize, word: u32, list: u32)
 }
 
 fn visit_sequence(
-    given: &[u32; 581],
-    line: &[u8],
-    work: &mut [u32],
-    left: u32,
-    live: u32,
-    made: u32,
-    top: u32,
+    given: &[u32; 3],
+    table: &&[u8],
+    line: &&[u8],
+    work: &mut &mut [u32],
+    depth: u32,
     x: u32,
     y: u32,
     pos: u32,
-) -> Visited
-    requires ready { ⌜ Ready (now given) (now line) (now work) left live made top x pos ⌝ }
-    requires open { ⌜ (live + left ≤ 512) × (y < nodesIn (now given)) ⌝ }
-    ensures { λ r. ⌜ Applied (now (given .entry)) (now (line .entry)) (now (work .entry)) (now (work .exit)) live made top r (λ (l : List Note) (s : State). after (reading (now (given .entry)) (now (line .entry)) left l x pos s) (second (reading (now (given .entry)) (now (line .entry)) left l) y)) ⌝ }
+) -> u64
+    requires ready { ⌜ Starts (lent (now (now table)) (now given)) (now (now line)) (now (now work)) depth x pos ⌝ }
+    requires open { ⌜ (liveIn depth + leftIn depth ≤ 512) × (y < nodesIn (lent (now (now table)) (now given))) ⌝ }
+    ensures says { λ r. ⌜ Ends (lent (now (now (table .entry))) (now (given .entry))) (now (now (line .entry))) (now (now (work .entry))) (now (now (work .exit))) depth r (λ (l : List Note) (s : State). after (reading (lent (now (now (table .entry))) (now (given .entry))) (now (now (line .entry))) (leftIn depth) l x pos s) (second (reading (lent (now (now (table .entry))) (now (given .entry))) (now (now (line .entry))) (leftIn depth) l) y)) ⌝ }
+    ensures lent { λ _. ⌜ (now (work .exit)) .name ≡ (now (work .entry)) .name ⌝ }
 {
-    let a = visit(given, line, work, left, live, made, top, x, pos);
-    if STOPPED <= a.end {
+    let a = visit(given, table, line, work, depth, x, pos);
+    let end = end_of(a);
+    if STOPPED <= end {
         return a;
     }
-    let b = visit(given, line, work, left, live, a.made, a.top, y, a.end);
-    if STOPPED <= b.end {
+    let b = visit(given, table, line, work, depth, y, end);
+    let last = end_of(b);
+    if STOPPED <= last {
         return b;
     }
-    let j = cells::join(work, b.top, a.list, b.list);
-    Visited {
-        end: b.end,
-        list: j.list,
-        top: j.top,
-        made: b.made,
-    }
+    joined(*work, last, list_of(a), list_of(b))
 }
 
 fn visit_choice(
-    given: &[u32; 581],
-    line: &[u8],
-    work: &mut [u32],
-    left: u32,
-    live: u32,
-    made: u32,
-    top: u32,
+    given: &[u32; 3],
+    table: &&[u8],
+    line: &&[u8],
+    work: &mut &mut [u32],
+    depth: u32,
     x: u32,
     y: u32,
     pos: u32,
-) -> Visited
-    requires ready { ⌜ Ready (now given) (now line) (now work) left live made top x pos ⌝ }
-    requires open { ⌜ (live + left ≤ 512) × (y < nodesIn (now given)) ⌝ }
-    ensures { λ r. ⌜ Applied (now (given .entry)) (now (line .entry)) (now (work .entry)) (now (work .exit)) live made top r (λ (l : List Note) (s : State). after (reading (now (given .entry)) (now (line .entry)) left l x pos s) (otherwise (reading (now (given .entry)) (now (line .entry)) left l) y pos)) ⌝ }
+) -> u64
+    requires ready { ⌜ Starts (lent (now (now table)) (now given)) (now (now line)) (now (now work)) depth x pos ⌝ }
+    requires open { ⌜ (liveIn depth + leftIn depth ≤ 512) × (y < nodesIn (lent (now (now table)) (now given))) ⌝ }
+    ensures says { λ r. ⌜ Ends (lent (now (now (table .entry))) (now (given .entry))) (now (now (line .entry))) (now (now (work .entry))) (now (now (work .exit))) depth r (λ (l : List Note) (s : State). after (reading (lent (now (now (table .entry))) (now (given .entry))) (now (now (line .entry))) (leftIn depth) l x pos s) (otherwise (reading (lent (now (now (table .entry))) (now (given .entry))) (now (now (line .entry))) (leftIn depth) l) y pos)) ⌝ }
+    ensures lent { λ _. ⌜ (now (work .exit)) .name ≡ (now (work .entry)) .name ⌝ }
 {
-    let a = visit(given, line, work, left, live, made, top, x, pos);
-    if a.end != FAILED {
+    let a = visit(given, table, line, work, depth, x, pos);
+    let end = end_of(a);
+    if end != FAILED {
         return a;
     }
-    visit(given, line, work, left, live, a.made, a.top, y, pos)
+    visit(given, table, line, work, depth, y, pos)
 }
 
 fn visit_not(
-    given: &[u32; 581],
-    line: &[u8],
-    work: &mut [u32],
-    left: u32,
-    live: u32,
-    made: u32,
-    top: u32,
+    given: &[u32; 3],
+    table: &&[u8],
+    line: &&[u8],
+    work: &mut &mut [u32],
+    depth: u32,
     x: u32,
     pos: u32,
-) -> Visited
-    requires ready { ⌜ Ready (now given) (now line) (now work) left live made top x pos ⌝ }
-    requires open { ⌜ live + left ≤ 512 ⌝ }
-    ensures { λ r. ⌜ Applied (now (given .entry)) (now (line .entry)) (now (work .entry)) (now (work .exit)) live made top r (λ (l : List Note) (s : State). after (reading (now (given .entry)) (now (line .entry)) left l x pos s) (denied pos)) ⌝ }
+) -> u64
+    requires ready { ⌜ Starts (lent (now (now table)) (now given)) (now (now line)) (now (now work)) depth x pos ⌝ }
+    requires open { ⌜ liveIn depth + leftIn depth ≤ 512 ⌝ }
+    ensures says { λ r. ⌜ Ends (lent (now (now (table .entry))) (now (given .entry))) (now (now (line .entry))) (now (now (work .entry))) (now (now (work .exit))) depth r (λ (l : List Note) (s : State). after (reading (lent (now (now (table .entry))) (now (given .entry))) (now (now (line .entry))) (leftIn depth) l x pos s) (denied pos)) ⌝ }
+    ensures lent { λ _. ⌜ (now (work .exit)) .name ≡ (now (work .entry)) .name ⌝ }
 {
-    let a = visit(given, line, work, left, live, made, top, x, pos);
-    if a.end == STOPPED {
+    let a = visit(given, table, line, work, depth, x, pos);
+    let end = end_of(a);
+    if end == STOPPED {
         return a;
     }
-    if a.end == FAILED {
-        return Visited {
-            end: pos,
-            list: 0,
-            top: a.top,
-            made: a.made,
-        };
+    if end == FAILED {
+        return answer(pos, 0);
     }
-    Visited {
-        end: FAILED,
-        list: 0,
-        top: a.top,
-        made: a.made,
-    }
+    answer(FAILED, 0)
 }
 
 // A repetition of the child x, which is node `node`: its next visit is one of itself.
 fn visit_repetition(
-    given: &[u32; 581],
-    line: &[u8],
-    work: &mut [u32],
-    left: u32,
-    live: u32,
-    made: u32,
-    top: u32,
+    given: &[u32; 3],
+    table: &&[u8],
+    line: &&[u8],
+    work: &mut &mut [u32],
+    depth: u32,
     node: u32,
     x: u32,
     pos: u32,
-) -> Visited
-    requires ready { ⌜ Ready (now given) (now line) (now work) left live made top x pos ⌝ }
-    requires open { ⌜ (live + left ≤ 512) × (node < nodesIn (now given)) ⌝ }
-    ensures { λ r. ⌜ Applied (now (given .entry)) (now (line .entry)) (now (work .entry)) (now (work .exit)) live made top r (λ (l : List Note) (s : State). after (reading (now (given .entry)) (now (line .entry)) left l x pos s) (repeated (reading (now (given .entry)) (now (line .entry)) left l) node pos)) ⌝ }
+) -> u64
+    requires ready { ⌜ Starts (lent (now (now table)) (now given)) (now (now line)) (now (now work)) depth x pos ⌝ }
+    requires open { ⌜ (liveIn depth + leftIn depth ≤ 512) × (node < nodesIn (lent (now (now table)) (now given))) ⌝ }
+    ensures says { λ r. ⌜ Ends (lent (now (now (table .entry))) (now (given .entry))) (now (now (line .entry))) (now (now (work .entry))) (now (now (work .exit))) depth r (λ (l : List Note) (s : State). after (reading (lent (now (now (table .entry))) (now (given .entry))) (now (now (line .entry))) (leftIn depth) l x pos s) (repeated (reading (lent (now (now (table .entry))) (now (given .entry))) (now (now (line .entry))) (leftIn depth) l) node pos)) ⌝ }
+    ensures lent { λ _. ⌜ (now (work .exit)) .name ≡ (now (work .entry)) .name ⌝ }
 {
-    let a = visit(given, line, work, left, live, made, top, x, pos);
-    if a.end == STOPPED {
+    let a = visit(given, table, line, work, depth, x, pos);
+    let end = end_of(a);
+    if end == STOPPED {
         return a;
     }
-    if a.end == FAILED {
-        return Visited {
-            end: pos,
-            list: 0,
-            top: a.top,
-            made: a.made,
-        };
+    if end == FAILED {
+        return answer(pos, 0);
     }
-    if a.end == pos {
-        return Visited {
-            end: pos,
-            list: 0,
-            top: a.top,
-            made: a.made,
-        };
+    if end == pos {
+        return answer(pos, 0);
     }
-    let b = visit(given, line, work, left, live, a.made, a.top, node, a.end);
-    if STOPPED <= b.end {
+    let b = visit(given, table, line, work, depth, node, end);
+    let last = end_of(b);
+    if STOPPED <= last {
         return b;
     }
-    let j = cells::join(work, b.top, a.list, b.list);
-    Visited {
-        end: b.end,
-        list: j.list,
-        top: j.top,
-        made: b.made,
-    }
+    joined(*work, last, list_of(a), list_of(b))
 }
 
 // A use of a rule where answers are kept: its root is visited once.
 fn use_free(
-    given: &[u32; 581],
-    line: &[u8],
-    work: &mut [u32],
-    left: u32,
-    live: u32,
-    made: u32,
-    top: u32,
+    given: &[u32; 3],
+    table: &&[u8],
+    line: &&[u8],
+    work: &mut &mut [u32],
+    depth: u32,
     rule: u32,
-    root: u32,
     pos: u32,
-) -> Visited
-    requires ready { ⌜ Ready (now given) (now line) (now work) left live made top root pos ⌝ }
-    requires open { ⌜ (live + left ≤ 512) × (rule < 64) ⌝ }
-    ensures { λ r. ⌜ Applied (now (given .entry)) (now (line .entry)) (now (work .entry)) (now (work .exit)) live made top r (λ (l : List Note) (s : State). after (reading (now (given .entry)) (now (line .entry)) left l root pos s) (wrapped rule pos)) ⌝ }
+) -> u64
+    requires ready { ⌜ Starts (lent (now (now table)) (now given)) (now (now line)) (now (now work)) depth (rootIn (lent (now (now table)) (now given)) rule) pos ⌝ }
+    requires open { ⌜ (liveIn depth + leftIn depth ≤ 512) × ((rule < 64) × (rule < rulesIn (lent (now (now table)) (now given)))) ⌝ }
+    ensures says { λ r. ⌜ Ends (lent (now (now (table .entry))) (now (given .entry))) (now (now (line .entry))) (now (now (work .entry))) (now (now (work .exit))) depth r (λ (l : List Note) (s : State). after (reading (lent (now (now (table .entry))) (now (given .entry))) (now (now (line .entry))) (leftIn depth) l (rootIn (lent (now (now (table .entry))) (now (given .entry))) rule) pos s) (wrapped rule pos)) ⌝ }
+    ensures lent { λ _. ⌜ (now (work .exit)) .name ≡ (now (work .entry)) .name ⌝ }
 {
-    let a = visit(given, line, work, left, live, made, top, root, pos);
-    if STOPPED <= a.end {
+    let root = root_of(*table, rule);
+    let a = visit(given, table, line, work, depth, root, pos);
+    let end = end_of(a);
+    if STOPPED <= end {
         return a;
     }
-    cells::put_tree(work, a.top, rule, pos, a.end, a.list);
-    Visited {
-        end: a.end,
-        list: a.top + 1,
-        top: a.top + 1,
-        made: a.made,
-    }
+    let list = planted(*work, rule, pos, end, list_of(a));
+    answer(end, list)
 }
 
-// A use that becomes live and grows: each attempt visits the root while the match before is held, as list `top`.
+// A use that becomes live and grows: each attempt visits the root while the match before is held, as list `held`.
 fn use_live(
-    given: &[u32; 581],
-    line: &[u8],
-    work: &mut [u32],
-    left: u32,
-    live: u32,
-    made: u32,
-    top: u32,
+    given: &[u32; 3],
+    table: &&[u8],
+    line: &&[u8],
+    work: &mut &mut [u32],
+    depth: u32,
     rule: u32,
-    root: u32,
     pos: u32,
-) -> Visited
-    requires ready { ⌜ Ready (now given) (now line) (now work) left live made top root pos ⌝ }
-    requires open { ⌜ (live + left ≤ 512) × ((rule < 64) × ((rule < rulesIn (now given)) × (root ≡ rootIn (now given) rule))) ⌝ }
-    requires fresh { ⌜ ((i : ℕ) → i < live → getD (now work) (i * 3) 0 ≢ keyOf rule pos) ⌝ }
-    ensures { λ r. ⌜ Applied (now (given .entry)) (now (line .entry)) (now (work .entry)) (now (work .exit)) live made top r (λ (l : List Note) (s : State). grows (now (given .entry)) (now (line .entry)) left l rule pos s) ⌝ }
+) -> u64
+    requires ready { ⌜ Starts (lent (now (now table)) (now given)) (now (now line)) (now (now work)) depth (rootIn (lent (now (now table)) (now given)) rule) pos ⌝ }
+    requires open { ⌜ (liveIn depth + leftIn depth ≤ 512) × ((rule < 64) × (rule < rulesIn (lent (now (now table)) (now given)))) ⌝ }
+    requires fresh { ⌜ ((i : ℕ) → i < liveIn depth → getD (now (now work)) (i * 3) 0 ≢ keyOf rule pos) ⌝ }
+    ensures says { λ r. ⌜ Ends (lent (now (now (table .entry))) (now (given .entry))) (now (now (line .entry))) (now (now (work .entry))) (now (now (work .exit))) depth r (λ (l : List Note) (s : State). grows (lent (now (now (table .entry))) (now (given .entry))) (now (now (line .entry))) (leftIn depth) l rule pos s) ⌝ }
+    ensures lent { λ _. ⌜ (now (work .exit)) .name ≡ (now (work .entry)) .name ⌝ }
 {
+    let root = root_of(*table, rule);
     let key = pos * 64 + rule;
-    put_use(work, live, key, 0, 0);
-    let first = visit(given, line, work, left, live + 1, made, top, root, pos);
-    if STOPPED <= first.end {
+    let live = depth / 1024;
+    put_use(*work, live, key, 0, 0);
+    let first = visit(given, table, line, work, depth + 1024, root, pos);
+    let reached = end_of(first);
+    if STOPPED <= reached {
         return first;
     }
-    let mut end = first.end;
-    let mut made = first.made;
-    let mut top = first.top + 1;
-    cells::put_tree(work, first.top, rule, pos, end, first.list);
-    let held = loop {
-        put_use(work, live, key, end, top);
-        let next = visit(given, line, work, left, live + 1, made, top, root, pos);
-        if next.end == STOPPED {
+    let mut end = reached;
+    let mut held = planted(*work, rule, pos, reached, list_of(first));
+    let last = loop {
+        put_use(*work, live, key, end, held);
+        let next = visit(given, table, line, work, depth + 1024, root, pos);
+        let reached = end_of(next);
+        if reached == STOPPED {
             break next;
         }
-        if next.end == FAILED {
-            break Visited {
-                end: end,
-                list: top,
-                top: next.top,
-                made: next.made,
-            };
+        if reached == FAILED {
+            break answer(end, held);
         }
-        if next.end <= end {
-            break Visited {
-                end: end,
-                list: top,
-                top: next.top,
-                made: next.made,
-            };
+        if reached <= end {
+            break answer(end, held);
         }
-        end = next.end;
-        made = next.made;
-        top = next.top + 1;
-        cells::put_tree(work, next.top, rule, pos, end, next.list);
+        held = planted(*work, rule, pos, reached, list_of(next));
+        end = reached;
     };
-    held
+    last
 }
 
 // A use of a rule at a position.
-pub fn use_rule(
-    given: &[u32; 581],
-    line: &[u8],
-    work: &mut [u32],
-    left: u32,
-    live: u32,
-    made: u32,
-    top: u32,
+fn use_rule(
+    given: &[u32; 3],
+    table: &&[u8],
+    line: &&[u8],
+    work: &mut &mut [u32],
+    depth: u32,
     rule: u32,
     pos: u32,
-) -> Visited
-    requires ready { ⌜ Ready (now given) (now line) (now work) left live made top (rootIn (now given) rule) pos ⌝ }
-    requires open { ⌜ (live + left ≤ 512) × (rule < rulesIn (now given)) ⌝ }
-    ensures { λ r. ⌜ Applied (now (given .entry)) (now (line .entry)) (now (work .entry)) (now (work .exit)) live made top r (λ (l : List Note) (s : State). uses (now (given .entry)) (now (line .entry)) left l rule pos s) ⌝ }
+) -> u64
+    requires ready { ⌜ Starts (lent (now (now table)) (now given)) (now (now line)) (now (now work)) depth (rootIn (lent (now (now table)) (now given)) rule) pos ⌝ }
+    requires open { ⌜ (liveIn depth + leftIn depth ≤ 512) × (rule < rulesIn (lent (now (now table)) (now given))) ⌝ }
+    ensures says { λ r. ⌜ Ends (lent (now (now (table .entry))) (now (given .entry))) (now (now (line .entry))) (now (now (work .entry))) (now (now (work .exit))) depth r (λ (l : List Note) (s : State). uses (lent (now (now (table .entry))) (now (given .entry))) (now (now (line .entry))) (leftIn depth) l rule pos s) ⌝ }
+    ensures lent { λ _. ⌜ (now (work .exit)) .name ≡ (now (work .entry)) .name ⌝ }
 {
-    let at = 512 + rule as usize;
-    let root = given[at];
-    if given[578] != 0 {
-        return use_free(given, line, work, left, live, made, top, rule, root, pos);
+    if given[1] != 0 {
+        return use_free(given, table, line, work, depth, rule, pos);
     }
-    let found = find_use(work, live, pos * 64 + rule);
+    let found = find_use(work, depth / 1024, pos * 64 + rule);
     if found != 0 {
         let entry = (found - 1) as usize * 3;
         let list = work[entry + 2];
         if list == 0 {
-            return Visited {
-                end: FAILED,
-                list: 0,
-                top: top,
-                made: made,
-            };
+            return answer(FAILED, 0);
         }
         let end = work[entry + 1];
-        return Visited {
-            end: end,
-            list: list,
-            top: top,
-            made: made,
-        };
+        return answer(end, list);
     }
-    use_live(given, line, work, left, live, made, top, rule, root, pos)
+    use_live(given, table, line, work, depth, rule, pos)
 }
 
 // One node's application: a decision over the kind, 0 to 6 and all above.
 fn apply(
-    given: &[u32; 581],
-    line: &[u8],
-    work: &mut [u32],
-    left: u32,
-    live: u32,
-    made: u32,
-    top: u32,
+    given: &[u32; 3],
+    table: &&[u8],
+    line: &&[u8],
+    work: &mut &mut [u32],
+    depth: u32,
     node: u32,
     pos: u32,
-) -> Visited
-    requires ready { ⌜ Ready (now given) (now line) (now work) left live made top node pos ⌝ }
-    requires open { ⌜ live + left ≤ 512 ⌝ }
-    ensures { λ r. ⌜ Applied (now (given .entry)) (now (line .entry)) (now (work .entry)) (now (work .exit)) live made top r (λ (l : List Note) (s : State). applies (now (given .entry)) (now (line .entry)) left l node pos s) ⌝ }
+) -> u64
+    requires ready { ⌜ Starts (lent (now (now table)) (now given)) (now (now line)) (now (now work)) depth node pos ⌝ }
+    requires open { ⌜ liveIn depth + leftIn depth ≤ 512 ⌝ }
+    ensures says { λ r. ⌜ Ends (lent (now (now (table .entry))) (now (given .entry))) (now (now (line .entry))) (now (now (work .entry))) (now (now (work .exit))) depth r (λ (l : List Note) (s : State). applies (lent (now (now (table .entry))) (now (given .entry))) (now (now (line .entry))) (leftIn depth) l node pos s) ⌝ }
+    ensures lent { λ _. ⌜ (now (work .exit)) .name ≡ (now (work .entry)) .name ⌝ }
 {
-    let at = node as usize;
-    let word = given[at];
-    match kind_in(word) {
-        0 => Visited {
-            end: pos,
-            list: 0,
-            top: top,
-            made: made,
-        },
-        1 => Visited {
-            end: range_end(line, a_in(word), b_in(word), pos),
-            list: 0,
-            top: top,
-            made: made,
-        },
-        2 => use_rule(given, line, work, left, live, made, top, a_in(word), pos),
-        3 => visit_sequence(
+    match kind_of(given, *table, node) {
+        0 => answer(pos, 0),
+        1 => answer(
+            range_end(
+                *line,
+                a_of(given, *table, node),
+                b_of(given, *table, node),
+                pos,
+            ),
+            0,
+        ),
+        2 => use_rule(
             given,
+            table,
             line,
             work,
-            left,
-            live,
-            made,
-            top,
-            a_in(word),
-            b_in(word),
+            depth,
+            a_of(given, *table, node),
+            pos,
+        ),
+        3 => visit_sequence(
+            given,
+            table,
+            line,
+            work,
+            depth,
+            a_of(given, *table, node),
+            b_of(given, *table, node),
             pos,
         ),
         4 => visit_choice(
             given,
+            table,
             line,
             work,
-            left,
-            live,
-            made,
-            top,
-            a_in(word),
-            b_in(word),
+            depth,
+            a_of(given, *table, node),
+            b_of(given, *table, node),
             pos,
         ),
-        5 => visit_not(given, line, work, left, live, made, top, a_in(word), pos),
+        5 => visit_not(
+            given,
+            table,
+            line,
+            work,
+            depth,
+            a_of(given, *table, node),
+            pos,
+        ),
         6 => visit_repetition(
             given,
+            table,
             line,
             work,
-            left,
-            live,
-            made,
-            top,
+            depth,
             node,
-            a_in(word),
+            a_of(given, *table, node),
             pos,
         ),
-        _ => Visited {
-            end: pos,
-            list: 0,
-            top: top,
-            made: made,
-        },
+        _ => answer(pos, 0),
     }
 }
 
-// A visit where answers are kept: the kept answer, else the node is applied and its answer kept.
-fn visit_kept(
-    given: &[u32; 581],
-    line: &[u8],
-    work: &mut [u32],
-    left: u32,
-    live: u32,
-    made: u32,
-    top: u32,
+// A visit that is counted and open: the answer that is kept, or else the node is applied and its answer kept.
+fn visit_open(
+    given: &[u32; 3],
+    table: &&[u8],
+    line: &&[u8],
+    work: &mut &mut [u32],
+    depth: u32,
     node: u32,
     pos: u32,
-) -> Visited
-    requires ready { ⌜ Ready (now given) (now line) (now work) left live made top node pos ⌝ }
-    requires open { ⌜ (live + left ≤ 512) × (keepsIn (now given) ≡ true) ⌝ }
-    ensures { λ r. ⌜ Applied (now (given .entry)) (now (line .entry)) (now (work .entry)) (now (work .exit)) live made top r (λ (l : List Note) (s : State). opens (now (given .entry)) (now (line .entry)) left l node pos s) ⌝ }
+) -> u64
+    requires ready { ⌜ Starts (lent (now (now table)) (now given)) (now (now line)) (now (now work)) depth node pos ⌝ }
+    requires open { ⌜ liveIn depth + leftIn depth ≤ 512 ⌝ }
+    ensures says { λ r. ⌜ Ends (lent (now (now (table .entry))) (now (given .entry))) (now (now (line .entry))) (now (now (work .entry))) (now (now (work .exit))) depth r (λ (l : List Note) (s : State). opens (lent (now (now (table .entry))) (now (given .entry))) (now (now (line .entry))) (leftIn depth) l node pos s) ⌝ }
+    ensures lent { λ _. ⌜ (now (work .exit)) .name ≡ (now (work .entry)) .name ⌝ }
 {
-    let at = kept_at(given, line, node, pos);
-    let word = work[at];
+    let word = kept_word(given, *line, work, node, pos);
     if word == 1 {
-        return Visited {
-            end: FAILED,
-            list: 0,
-            top: top,
-            made: made,
-        };
+        return answer(FAILED, 0);
     }
     if 1 < word {
+        let at = kept_at(given, *line, node, pos);
         let list = work[at + 1];
-        return Visited {
-            end: word - 2,
-            list: list,
-            top: top,
-            made: made,
-        };
+        return answer(word - 2, list);
     }
-    let r = apply(given, line, work, left, live, made, top, node, pos);
-    if r.end == STOPPED {
-        return r;
-    }
-    if r.end == FAILED {
-        put_kept(work, at, 1, 0);
-        return Visited {
-            end: FAILED,
-            list: 0,
-            top: r.top,
-            made: r.made,
-        };
-    }
-    put_kept(work, at, r.end + 2, r.list);
-    Visited {
-        end: r.end,
-        list: r.list,
-        top: r.top,
-        made: r.made,
-    }
+    let done = apply(given, table, line, work, depth, node, pos);
+    keep(given, *line, *work, node, pos, end_of(done), list_of(done));
+    done
 }
 
 // A visit: EFFORT, then DEEP, then the node. Ranges are answered here where nothing is kept.
-pub fn visit(
-    given: &[u32; 581],
-    line: &[u8],
-    work: &mut [u32],
-    left: u32,
-    live: u32,
-    made: u32,
-    top: u32,
+fn visit(
+    given: &[u32; 3],
+    table: &&[u8],
+    line: &&[u8],
+    work: &mut &mut [u32],
+    depth: u32,
     node: u32,
     pos: u32,
-) -> Visited
-    requires { ⌜ Ready (now given) (now line) (now work) left live made top node pos ⌝ }
-    ensures { λ r. ⌜ Visits (now (given .entry)) (now (line .entry)) (now (work .entry)) (now (work .exit)) live made top r (λ (l : List Note) (s : State). reading (now (given .entry)) (now (line .entry)) left l node pos s) ⌝ }
+) -> u64
+    requires ready { ⌜ Starts (lent (now (now table)) (now given)) (now (now line)) (now (now work)) depth node pos ⌝ }
+    ensures says { λ r. ⌜ EndsVisit (lent (now (now (table .entry))) (now (given .entry))) (now (now (line .entry))) (now (now (work .entry))) (now (now (work .exit))) depth r (λ (l : List Note) (s : State). reading (lent (now (now (table .entry))) (now (given .entry))) (now (now (line .entry))) (leftIn depth) l node pos s) ⌝ }
+    ensures lent { λ _. ⌜ (now (work .exit)) .name ≡ (now (work .entry)) .name ⌝ }
 {
-    if given[580] <= made {
-        return Visited {
-            end: STOPPED,
-            list: 11 * 4096 + pos,
-            top: top,
-            made: made,
-        };
+    let made = work[2043];
+    if given[0] <= made {
+        return answer(STOPPED, 11 * 4096 + pos);
     }
-    if left == 0 {
-        return Visited {
-            end: STOPPED,
-            list: 12 * 4096 + pos,
-            top: top,
-            made: made,
-        };
+    if depth % 1024 == 0 {
+        return answer(STOPPED, 12 * 4096 + pos);
     }
-    if given[578] != 0 {
-        return visit_kept(given, line, work, left - 1, live, made + 1, top, node, pos);
+    work[2043] = made + 1;
+    if plain_range(given, *table, node) {
+        let end = range_end(
+            *line,
+            a_of(given, *table, node),
+            b_of(given, *table, node),
+            pos,
+        );
+        return answer(end, 0);
     }
-    let at = node as usize;
-    let word = given[at];
-    if kind_in(word) == 1 {
-        return Visited {
-            end: range_end(line, a_in(word), b_in(word), pos),
-            list: 0,
-            top: top,
-            made: made + 1,
-        };
+    visit_open(given, table, line, work, depth - 1, node, pos)
+}
+
+// The use of rule 0 at position 0, which is not itself a visit.
+fn first_use(given: &[u32; 3], table: &&[u8], line: &&[u8], work: &mut &mut [u32]) -> u64
+    requires ready { ⌜ Starts (lent (now (now table)) (now given)) (now (now line)) (now (now work)) 512 (rootIn (lent (now (now table)) (now given)) 0) 0 ⌝ }
+    requires some { ⌜ 0 < rulesIn (lent (now (now table)) (now given)) ⌝ }
+    ensures says { λ r. ⌜ Ends (lent (now (now (table .entry))) (now (given .entry))) (now (now (line .entry))) (now (now (work .entry))) (now (now (work .exit))) 512 r (λ (l : List Note) (s : State). uses (lent (now (now (table .entry))) (now (given .entry))) (now (now (line .entry))) 512 l 0 0 s) ⌝ }
+    ensures lent { λ _. ⌜ (now (work .exit)) .name ≡ (now (work .entry)) .name ⌝ }
+{
+    if given[1] != 0 {
+        return use_free(given, table, line, work, 512, 0, 0);
     }
-    apply(given, line, work, left - 1, live, made + 1, top, node, pos)
+    use_live(given, table, line, work, 512, 0, 0)
+}
+
+// The whole reading: what it answers, and the working numbers that it was lent. (They are moved once more before they are returned: `all` itself
+// would go back as a part of what was lent, under a name of its own.)
+pub fn read_line<'a>(
+    given: &[u32; 3],
+    table: &[u8],
+    line: &[u8],
+    work: &'a mut [u32],
+    answer: &mut u64,
+) -> &'a mut [u32]
+    requires ready { ⌜ Starts (lent (now table) (now given)) (now line) (now work) 512 (rootIn (lent (now table) (now given)) 0) 0 ⌝ }
+    requires some { ⌜ 0 < rulesIn (lent (now table) (now given)) ⌝ }
+    ensures says { λ r. ⌜ Ends (lent (now (table .entry)) (now (given .entry))) (now (line .entry)) (now (work .entry)) (now r) 512 (now (answer .exit)) (λ (l : List Note) (s : State). uses (lent (now (table .entry)) (now (given .entry))) (now (line .entry)) 512 l 0 0 s) ⌝ }
+    ensures lent { λ r. ⌜ r .name ≡ (work .entry) .name ⌝ }
+{
+    let mut all = work;
+    *answer = first_use(given, &table, &line, &mut all);
+    let whole = all;
+    whole
 }

@@ -1,4 +1,10 @@
+-- Each return of `finish` is the row of 01 that its tests say.
 use borrow.Author.Needs.{needs}
+use native.Mathlib.Omega.{arith}
+use mathlib.Core.Path.{_≡_, sym, _∙_}
+use Rattle.stored.specs.Stored.{recordsOf}
+use Rattle.cells.specs.Cells.{treesAt}
+use Rattle.reader.proofs.Finishing.{matched, arena-of, by-refusal, by-failure, by-match, as-rest, as-records, as-room, as-read, true-count, over-count}
 use Rattle.reader.proofs.finish.Statement.{statement}
 use Rattle.reader.proofs.finish.Tie as tie
 use Rattle.reader.proofs.finish.Reads as reads
@@ -6,34 +12,45 @@ use Rattle.reader.proofs.finish.Lts as lts
 use Rattle.cells.proofs.records_of.Reads as records-of-reads
 use Rattle.cells.proofs.write.Reads as write-reads
 use Rattle.reader.proofs.unread.Reads as unread-reads
-use borrow.Author.Needs.{needs}
-use native.Mathlib.Omega.{arith}
-use mathlib.Core.Path.{_≡_, refl, sym, _∙_}
-use Rattle.stored.specs.Stored.{recordsOf}
-use Rattle.cells.specs.Cells.{treesAt}
-use Rattle.cells.proofs.Frame.{arena-less}
-use Rattle.reader.proofs.Finishing.{by-refusal, by-failure, by-match, as-rest, as-records, as-room, as-read, true-count, over-count}
+use Rattle.visits.proofs.end_of.Reads as end-of-reads
+use Rattle.visits.proofs.list_of.Reads as list-of-reads
+use Rattle.visits.proofs.visits_made.Reads as visits-made-reads
+
+visits-made-requires : tie.Need-visits-made-requires
+visits-made-requires c κs = search needs
 
 cast-made : tie.Need-cast-made
 cast-made c = search needs
 
-cast-t12 : tie.Need-cast-t12
-cast-t12 c = search needs
+end-of-requires : tie.Need-end-of-requires
+end-of-requires c κs = search needs
 
-cast-t13 : tie.Need-cast-t13
-cast-t13 c = search needs
+list-of-requires : tie.Need-list-of-requires
+list-of-requires c κs = search needs
+
+cast-t15 : tie.Need-cast-t15
+cast-t15 c = search needs
+
+cast-t16 : tie.Need-cast-t16
+cast-t16 c = search needs
 
 returns : tie.Need-returns
 returns c =
-    let at-start = c .before .before .before .before .before .before .before .before in
-    let at-if1 = c .before .before .if1 in
-    by-refusal _ _ _ _ _ (at-start .pre .0) (at-start .pre .1) (at-if1 .taken)
+    let at-start = c .before .before .before .before .before .before .before in
+    let at-visits-made = c .before .before .before .visits-made in
+    let at-end-of = c .before .before .end-of in
+    let at-list-of = c .before .list-of in
+    let at-if1 = c .if1 in
+    by-refusal _ _ _ _ _ (at-start .pre .1) _ _ _ (at-end-of .ensures) (at-list-of .ensures) (at-visits-made .ensures) (at-if1 .taken)
 
 returns-2 : tie.Need-returns-2
 returns-2 c =
     let at-start = c .before .before .before .before .before .before .before .before in
+    let at-visits-made = c .before .before .before .before .visits-made in
+    let at-end-of = c .before .before .before .end-of in
+    let at-list-of = c .before .before .list-of in
     let at-if2 = c .if2 in
-    by-failure _ _ _ _ _ (at-start .pre .0) (at-start .pre .1) (at-if2 .taken)
+    by-failure _ _ _ _ _ (at-start .pre .1) _ _ _ (at-end-of .ensures) (at-list-of .ensures) (at-visits-made .ensures) (at-if2 .taken)
 
 cast-end : tie.Need-cast-end
 cast-end c = search needs
@@ -43,30 +60,42 @@ unread-requires c κs = search needs
 
 returns-3 : tie.Need-returns-3
 returns-3 c =
-    let at-start = c .before .before .before .before .before .before .before .before .before .before .before in
-    let at-if1 = c .before .before .before .before .before .if1 in
-    let at-if2 = c .before .before .before .if2 in
+    let at-start = c .before .before .before .before .before .before .before .before .before .before in
+    let at-visits-made = c .before .before .before .before .before .before .visits-made in
+    let at-end-of = c .before .before .before .before .before .end-of in
+    let at-list-of = c .before .before .before .before .list-of in
+    let at-if1 = c .before .before .before .if1 in
+    let at-if2 = c .before .before .if2 in
     let at-unread = c .before .unread in
     let at-if3 = c .if3 in
-    by-match _ _ _ _ _ (at-start .pre .0) (at-start .pre .1) (let a = at-if1 .left in let b = at-if2 .left in let m = (at-start .pre .0) .end-most in omega arith) _ _ (λ work. as-rest _ _ _ _ _ work _ (sym (at-unread .ensures) ∙ at-if3 .taken))
+    by-match _ _ _ _ _ (at-start .pre .1) _ _ _ (at-end-of .ensures) (at-list-of .ensures) (at-visits-made .ensures)
+    (matched (at-start .pre .0) _ (at-end-of .ensures) (at-if1 .left) (at-if2 .left)) _ _
+    (λ work. as-rest _ _ _ _ _ work _ (sym (at-unread .ensures) ∙ at-if3 .taken))
 
 records-of-requires : tie.Need-records-of-requires
 records-of-requires c κs =
-    let at-start = c .before .before .before .before .before .before .before .before .before .before .before in
-    let at-if1 = c .before .before .before .before .before .if1 in
-    let at-if2 = c .before .before .before .if2 in
-    (arena-less _ _ _ ((at-start .pre .0) .list-in (let a = at-if1 .left in let b = at-if2 .left in let m = (at-start .pre .0) .end-most in omega arith)) ((at-start .pre .0) .arena))
+    let at-start = c .before .before .before .before .before .before .before .before .before .before in
+    let at-end-of = c .before .before .before .before .before .end-of in
+    let at-list-of = c .before .before .before .before .list-of in
+    let at-if1 = c .before .before .before .if1 in
+    let at-if2 = c .before .before .if2 in
+    arena-of (at-start .pre .0) _ (at-end-of .ensures) (at-if1 .left) (at-if2 .left) _ (at-list-of .ensures)
 
 returns-4 : tie.Need-returns-4
 returns-4 c =
-    let at-start = c .before .before .before .before .before .before .before .before .before .before .before .before .before in
-    let at-if1 = c .before .before .before .before .before .before .before .if1 in
-    let at-if2 = c .before .before .before .before .before .if2 in
+    let at-start = c .before .before .before .before .before .before .before .before .before .before .before .before in
+    let at-visits-made = c .before .before .before .before .before .before .before .before .visits-made in
+    let at-end-of = c .before .before .before .before .before .before .before .end-of in
+    let at-list-of = c .before .before .before .before .before .before .list-of in
+    let at-if1 = c .before .before .before .before .before .if1 in
+    let at-if2 = c .before .before .before .before .if2 in
     let at-unread = c .before .before .before .unread in
     let at-if3 = c .before .before .if3 in
     let at-records-of = c .before .records-of in
     let at-if4 = c .if4 in
-    by-match _ _ _ _ _ (at-start .pre .0) (at-start .pre .1) (let a = at-if1 .left in let b = at-if2 .left in let m = (at-start .pre .0) .end-most in omega arith) _ _ (λ work. as-records _ _ _ _ _ work _ (sym (at-unread .ensures) ∙ at-if3 .left) (over-count _ _ (at-records-of .ensures) (at-if4 .taken)))
+    by-match _ _ _ _ _ (at-start .pre .1) _ _ _ (at-end-of .ensures) (at-list-of .ensures) (at-visits-made .ensures)
+    (matched (at-start .pre .0) _ (at-end-of .ensures) (at-if1 .left) (at-if2 .left)) _ _
+    (λ work. as-records _ _ _ _ _ work _ (sym (at-unread .ensures) ∙ at-if3 .left) (over-count _ _ (at-records-of .ensures) (at-if4 .taken)))
 
 cast-if5 : tie.Need-cast-if5
 cast-if5 c = search needs
@@ -77,66 +106,81 @@ mul-if5 c = search needs
 add-if5 : tie.Need-add-if5
 add-if5 c = search needs
 
-cast-t20 : tie.Need-cast-t20
-cast-t20 c = search needs
+cast-t23 : tie.Need-cast-t23
+cast-t23 c = search needs
 
 returns-5 : tie.Need-returns-5
 returns-5 c =
-    let at-records-of = c .before .before .records-of in
-    let at-start = c .before .before .before .before .before .before .before .before .before .before .before .before .before .before in
-    let at-if4 = c .before .if4 in
-    let at-if5 = c .if5 in
-    let at-if1 = c .before .before .before .before .before .before .before .before .if1 in
-    let at-if2 = c .before .before .before .before .before .before .if2 in
+    let at-start = c .before .before .before .before .before .before .before .before .before .before .before .before .before in
+    let at-visits-made = c .before .before .before .before .before .before .before .before .before .visits-made in
+    let at-end-of = c .before .before .before .before .before .before .before .before .end-of in
+    let at-list-of = c .before .before .before .before .before .before .before .list-of in
+    let at-if1 = c .before .before .before .before .before .before .if1 in
+    let at-if2 = c .before .before .before .before .before .if2 in
     let at-unread = c .before .before .before .before .unread in
     let at-if3 = c .before .before .before .if3 in
-    let q : at-records-of .result ≡ recordsOf (treesAt (at-start .args .work .now) (at-start .args .v .list)) = (true-count _ (recordsOf (treesAt (at-start .args .work .now) (at-start .args .v .list))) (at-records-of .ensures) (at-if4 .left)) in
+    let at-records-of = c .before .before .records-of in
+    let at-if4 = c .before .if4 in
+    let at-if5 = c .if5 in
+    let q : at-records-of .result ≡ recordsOf (treesAt (at-start .args .work .now) (at-list-of .result)) = true-count _ (recordsOf (treesAt (at-start .args .work .now) (at-list-of .result))) (at-records-of .ensures) (at-if4 .left) in
     let b = at-if4 .left in
     let g = at-if5 .taken in
-    by-match _ _ _ _ _ (at-start .pre .0) (at-start .pre .1) (let a = at-if1 .left in let b = at-if2 .left in let m = (at-start .pre .0) .end-most in omega arith) _ _ (λ work. rw q (as-room _ _ _ _ _ work _ (sym (at-unread .ensures) ∙ at-if3 .left) (omega arith) (omega arith)))
+    by-match _ _ _ _ _ (at-start .pre .1) _ _ _ (at-end-of .ensures) (at-list-of .ensures) (at-visits-made .ensures)
+    (matched (at-start .pre .0) _ (at-end-of .ensures) (at-if1 .left) (at-if2 .left)) _ _
+    (λ work. rw q (as-room _ _ _ _ _ work _ (sym (at-unread .ensures) ∙ at-if3 .left) (omega arith) (omega arith)))
 
 write-requires : tie.Need-write-requires
 write-requires c κs =
+    let at-start = c .before .before .before .before .before .before .before .before .before .before .before .before .before .before in
+    let at-end-of = c .before .before .before .before .before .before .before .before .before .end-of in
+    let at-list-of = c .before .before .before .before .before .before .before .before .list-of in
+    let at-if1 = c .before .before .before .before .before .before .before .if1 in
+    let at-if2 = c .before .before .before .before .before .before .if2 in
     let at-records-of = c .before .before .before .records-of in
-    let at-start = c .before .before .before .before .before .before .before .before .before .before .before .before .before .before .before in
     let at-if4 = c .before .before .if4 in
     let at-if5 = c .before .if5 in
-    let at-if1 = c .before .before .before .before .before .before .before .before .before .if1 in
-    let at-if2 = c .before .before .before .before .before .before .before .if2 in
-    let q : at-records-of .result ≡ recordsOf (treesAt (at-start .args .work .now) (at-start .args .v .list)) = (true-count _ (recordsOf (treesAt (at-start .args .work .now) (at-start .args .v .list))) (at-records-of .ensures) (at-if4 .left)) in
+    let q : at-records-of .result ≡ recordsOf (treesAt (at-start .args .work .now) (at-list-of .result)) = true-count _ (recordsOf (treesAt (at-start .args .work .now) (at-list-of .result))) (at-records-of .ensures) (at-if4 .left) in
     let b = at-if4 .left in
     let g = at-if5 .left in
-    ((arena-less _ _ _ ((at-start .pre .0) .list-in (let a = at-if1 .left in let b = at-if2 .left in let m = (at-start .pre .0) .end-most in omega arith)) ((at-start .pre .0) .arena)), ((omega arith, (omega arith, omega arith)), omega arith))
+    (arena-of (at-start .pre .0) _ (at-end-of .ensures) (at-if1 .left) (at-if2 .left) _ (at-list-of .ensures), ((omega arith, (omega arith, omega arith)), omega arith))
 
-cast-t16 : tie.Need-cast-t16
-cast-t16 c = search needs
+cast-t19 : tie.Need-cast-t19
+cast-t19 c = search needs
 
 same-length : tie.Need-same-length
 same-length c = search needs
 
 returns-6 : tie.Need-returns-6
 returns-6 c =
-    let at-records-of = c .before .before .before .before .before .before .records-of in
-    let at-start = c .before .before .before .before .before .before .before .before .before .before .before .before .before .before .before .before .before .before in
-    let at-if4 = c .before .before .before .before .before .if4 in
-    let at-if5 = c .before .before .before .before .if5 in
-    let at-if1 = c .before .before .before .before .before .before .before .before .before .before .before .before .if1 in
-    let at-if2 = c .before .before .before .before .before .before .before .before .before .before .if2 in
-    let at-write = c .before .before .write in
+    let at-start = c .before .before .before .before .before .before .before .before .before .before .before .before .before .before .before .before .before in
+    let at-visits-made = c .before .before .before .before .before .before .before .before .before .before .before .before .before .visits-made in
+    let at-end-of = c .before .before .before .before .before .before .before .before .before .before .before .before .end-of in
+    let at-list-of = c .before .before .before .before .before .before .before .before .before .before .before .list-of in
+    let at-if1 = c .before .before .before .before .before .before .before .before .before .before .if1 in
+    let at-if2 = c .before .before .before .before .before .before .before .before .before .if2 in
     let at-unread = c .before .before .before .before .before .before .before .before .unread in
     let at-if3 = c .before .before .before .before .before .before .before .if3 in
-    let q : at-records-of .result ≡ recordsOf (treesAt (at-start .args .work .now) (at-start .args .v .list)) = (true-count _ (recordsOf (treesAt (at-start .args .work .now) (at-start .args .v .list))) (at-records-of .ensures) (at-if4 .left)) in
+    let at-records-of = c .before .before .before .before .before .before .records-of in
+    let at-if4 = c .before .before .before .before .before .if4 in
+    let at-if5 = c .before .before .before .before .if5 in
+    let at-write = c .before .before .write in
+    let q : at-records-of .result ≡ recordsOf (treesAt (at-start .args .work .now) (at-list-of .result)) = true-count _ (recordsOf (treesAt (at-start .args .work .now) (at-list-of .result))) (at-records-of .ensures) (at-if4 .left) in
     let b = at-if4 .left in
     let g = at-if5 .left in
-    by-match _ _ _ _ _ (at-start .pre .0) (at-start .pre .1) (let a = at-if1 .left in let b = at-if2 .left in let m = (at-start .pre .0) .end-most in omega arith) _ _ (λ work. rw (q, at-write .ensures) (as-read _ _ _ _ _ work _ (sym (at-unread .ensures) ∙ at-if3 .left) (omega arith) (omega arith)))
+    by-match _ _ _ _ _ (at-start .pre .1) _ _ _ (at-end-of .ensures) (at-list-of .ensures) (at-visits-made .ensures)
+    (matched (at-start .pre .0) _ (at-end-of .ensures) (at-if1 .left) (at-if2 .left)) _ _
+    (λ work. rw (q, at-write .ensures) (as-read _ _ _ _ _ work _ (sym (at-unread .ensures) ∙ at-if3 .left) (omega arith) (omega arith)))
 
 pub finish-spec : {M : Type 1} → statement M
 finish-spec =
     tie.close
     (tie.spec
+    visits-made-requires
     cast-made
-    cast-t12
-    cast-t13
+    end-of-requires
+    list-of-requires
+    cast-t15
+    cast-t16
     returns
     returns-2
     cast-end
@@ -147,9 +191,9 @@ finish-spec =
     cast-if5
     mul-if5
     add-if5
-    cast-t20
+    cast-t23
     returns-5
     write-requires
-    cast-t16
+    cast-t19
     same-length
     returns-6)

@@ -1,31 +1,61 @@
+-- The use of rule 0 starts with nothing live and nothing kept; what comes back is the whole of the working numbers that were lent.
 use borrow.Author.Needs.{needs}
+use mathlib.Core.Path.{sym}
+use Rattle.reader.proofs.Starting.{some-rule, ready, tells, visiting}
 use Rattle.reader.proofs.start.Statement.{statement}
 use Rattle.reader.proofs.start.Tie as tie
 use Rattle.reader.proofs.start.Reads as reads
 use Rattle.reader.proofs.start.Lts as lts
-use Rattle.reader.proofs.prepare.Reads as prepare-reads
-use Rattle.visits.proofs.use_rule.Reads as use-rule-reads
-use native.Mathlib.Omega.{arith}
-use Rattle.reader.proofs.Starting.{ready, rule-known, tells, visiting}
+use Rattle.reader.proofs.flag.Reads as flag-reads
+use Rattle.sheet.proofs.first_node.Reads as first-node-reads
+use Rattle.visits.proofs.no_visits.Reads as no-visits-reads
+use Rattle.visits.proofs.read_line.Reads as read-line-reads
 
-prepare-requires : tie.Need-prepare-requires
-prepare-requires c κs = search needs
+first-node-requires : tie.Need-first-node-requires
+first-node-requires c κs = search needs
 
-use-rule-requires : tie.Need-use-rule-requires
-use-rule-requires c κs =
-    let at-start = c .before .before .before .before .before .before .before in
-    let at-prepare = c .before .before .prepare in
-    (ready _ _ _ _ _ _ (at-start .pre) (at-prepare .ensures), (omega arith, rule-known _ _ _ _ _ _ (at-start .pre) (at-prepare .ensures)))
+cast-first : tie.Need-cast-first
+cast-first c = search needs
+
+flag-requires : tie.Need-flag-requires
+flag-requires c κs = search needs
+
+no-visits-requires : tie.Need-no-visits-requires
+no-visits-requires c κs = search needs
+
+read-line-requires : tie.Need-read-line-requires
+read-line-requires c κs =
+    let at-start = c .before .before .before .before .before .before .before .before .before .before .before .before in
+    let at-flag = c .before .before .before .before .before .before .before .flag in
+    let at-first-node = c .before .before .before .before .before .before .before .before .first-node in
+    let at-no-visits = c .before .before .before .before .before .no-visits in
+    (ready _ _ _ _ _ _ _ _ (at-start .pre) (at-flag .ensures) (at-first-node .ensures .0) (at-no-visits .ensures), some-rule (at-start .pre))
 
 same-length : tie.Need-same-length
 same-length c = search needs
 
 returns : tie.Need-returns
 returns c =
-    let at-start = c .before .before .before .before .before .before .before .before .before .before in
-    let at-prepare = c .before .before .before .before .before .prepare in
-    let at-use-rule = c .before .before .use-rule in
-    (visiting _ _ _ _ _ _ (at-start .pre) (at-prepare .ensures) (at-use-rule .ensures .came), tells _ _ _ _ _ _ (at-start .pre) (at-prepare .ensures) (at-use-rule .ensures .came))
+    let at-work2 = c .before .work2 in
+    let at-read-line = c .before .before .read-line in
+    let at-start = c .before .before .before .before .before .before .before .before .before .before .before .before .before .before .before in
+    let at-flag = c .before .before .before .before .before .before .before .before .before .before .flag in
+    let at-first-node = c .before .before .before .before .before .before .before .before .before .before .before .first-node in
+    let at-no-visits = c .before .before .before .before .before .before .before .before .no-visits in
+    let all-back = at-work2 .given .1 .0 (sym (at-read-line .ensures .1)) in
+    rw all-back (
+      visiting _ _ _ _ _ _ _ _ (at-start .pre) (at-flag .ensures) (at-first-node .ensures .0) (at-no-visits .ensures) _ _ (at-read-line .ensures .0),
+      tells _ _ _ _ _ _ _ _ (at-start .pre) (at-flag .ensures) (at-first-node .ensures .0) (at-no-visits .ensures) _ _ (at-read-line .ensures .0),
+    )
 
 pub start-spec : {M : Type 1} → statement M
-start-spec = tie.close (tie.spec prepare-requires use-rule-requires same-length returns)
+start-spec =
+    tie.close
+    (tie.spec
+    first-node-requires
+    cast-first
+    flag-requires
+    no-visits-requires
+    read-line-requires
+    same-length
+    returns)

@@ -26,11 +26,11 @@ led-back-requires c κs = search needs
 
 returns : tie.Need-returns
 returns c =
-    let p = c .before .before .before .before .before .before .before .before .pre in
-    let t = now (c .before .before .before .before .before .before .before .before .args .table) in
+    let s = c .before .before .before .before .before .before .before .before .before in
+    let t = now (s .args .table) in
     let to = c .before .before .before .before .steps in
-    let r : c .before .before .before .before .before .rule-count .result ≡ length (grammarOf t .roots) = omega (arith, rule-count t) in
-    left-found (grammarOf t) (closed t (p .0)) (omega arith) _ (p .2) (inSet (to .result)) (λ a b h. ap (λ x. has x b) (to .ensures .1 a h)) _
+    let r : c .before .before .before .before .before .before .rule-count .result ≡ length (grammarOf t .roots) = omega (arith, rule-count t) in
+    left-found (grammarOf t) (closed t (s .pre .0)) (omega arith) _ (s .pre .2) (inSet (to .last .1 .1 .0)) (λ a b h. ap (λ x. has x b) (to .ensures .1 a h)) _
     (rw r at (c .before .before .close .ensures)) _ (c .led-back .ok) (rw r at (c .led-back .ensures))
 
 pub left-rules-spec : {M : Type 1} → statement M

@@ -8,7 +8,6 @@ use Rattle.bits.proofs.Laws.{count-none, lowest-none}
 use Rattle.sheet.specs.declared.Verdict.{Verdict}
 use Rattle.sheet.specs.Check.{Accepted}
 use Rattle.sheet.proofs.Accepting.{accepted-by}
-use Rattle.report.proofs.Repeat.{settled}
 use Rattle.report.proofs.report.Statement.{statement}
 use Rattle.report.proofs.report.Tie as tie
 
@@ -39,20 +38,11 @@ returns c =
       refused = λ n. (refl, refl, refl, refl);
     }
 
-slice-aggregate-empty-rules : tie.Need-slice-aggregate-empty-rules
-slice-aggregate-empty-rules c = search needs
+slice-aggregate-masks : tie.Need-slice-aggregate-masks
+slice-aggregate-masks c = search needs
 
-empty-rules-requires : tie.Need-empty-rules-requires
-empty-rules-requires c κs = (accepted (c .before), omega arith)
-
-slice-aggregate-left-rules : tie.Need-slice-aggregate-left-rules
-slice-aggregate-left-rules c = search needs
-
-left-rules-requires : tie.Need-left-rules-requires
-left-rules-requires c κs =
-    let a = accepted (c .before .before .before .before) in
-    let e = c .before .before .empty-rules .ensures in
-    (a, omega (arith, c .before .before .empty-rules .kept .1 .0), settled _ a _ _ (omega arith) (e .0) _ (e .1))
+masks-requires : tie.Need-masks-requires
+masks-requires c κs = (accepted (c .before), omega arith)
 
 count-requires : tie.Need-count-requires
 count-requires c κs = search needs
@@ -63,13 +53,14 @@ lowest-requires c κs = search needs
 returns-2 : tie.Need-returns-2
 unfolding code place
 returns-2 c =
-    let a = accepted (c .before .before .before .before .before .before .before) in
-    let v = c .before .before .before .before .before .before .before .before .before .check .ensures in
+    let a = accepted (c .before .before .before .before .before) in
+    let v = c .before .before .before .before .before .before .before .check .ensures in
+    let found = c .before .before .before .masks .ensures in
     record {
       code = ap code v;
       place = ap place v;
-      may-be-empty = λ x. c .before .before .before .before .before .empty-rules .ensures .0;
-      left-recursive = λ x. c .before .before .left-rules .ensures;
+      may-be-empty = λ x. found .0;
+      left-recursive = λ x. found .1;
       how-many = c .before .count .ensures;
       lowest = c .lowest .ensures;
       refused = λ n. absurd (n a);
@@ -78,13 +69,4 @@ returns-2 c =
 pub report-spec : {M : Type 1} → statement M
 report-spec =
     tie.close
-    (tie.spec
-    check-requires
-    returns
-    slice-aggregate-empty-rules
-    empty-rules-requires
-    slice-aggregate-left-rules
-    left-rules-requires
-    count-requires
-    lowest-requires
-    returns-2)
+    (tie.spec check-requires returns slice-aggregate-masks masks-requires count-requires lowest-requires returns-2)

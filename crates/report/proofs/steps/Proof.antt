@@ -1,6 +1,6 @@
 -- Each rule's set is filled with the rules at the start of its root.
 use denote.Ref.{now}
-use mathlib.Core.Path.{_≡_, refl, ap}
+use mathlib.Core.Path.{_≡_, ap}
 use Prim.Native.Nat.{ℕ, _-_, _≤_, _<_}
 use native.Mathlib.Omega.{arith}
 use borrow.Author.Needs.{needs}
@@ -14,16 +14,16 @@ use Rattle.report.proofs.steps.Statement.{statement}
 use Rattle.report.proofs.steps.Tie as tie
 
 abbrev Inv-loop : tie.InvT-loop
-Inv-loop table scratch r to₀ a₀ to a = (a ≤ r) × (length to ≡ 64) × ((j : ℕ) → j < a → getD to j 0 ≡ rootFacts table scratch j .starts)
+Inv-loop table scratch to₀ r a₀ to a = (a ≤ r) × (length to ≡ 64) × ((j : ℕ) → j < a → getD to j 0 ≡ rootFacts table scratch j .starts)
 
 abbrev μ-loop : tie.MeasureT-loop
-μ-loop table scratch r to₀ a₀ to a = r - a
+μ-loop table scratch to₀ r a₀ to a = r - a
 
 rule-count-requires : tie.Need-rule-count-requires Inv-loop μ-loop
 rule-count-requires c κs = search needs
 
 loop-holds : tie.Need-loop-holds Inv-loop μ-loop
-loop-holds c = (omega arith, refl, λ j h. absurd (omega arith))
+loop-holds c = (omega arith, c .before .before .before .pre .2, λ j h. absurd (omega arith))
 
 root-requires : tie.Need-root-requires Inv-loop μ-loop
 root-requires c κs = search needs
@@ -34,8 +34,8 @@ facts-at-requires c κs = omega (arith, well-formed _ (c .before .before .before
 mul-to : tie.Need-mul-to Inv-loop μ-loop
 mul-to c = omega arith
 
-array-write-to : tie.Need-array-write-to Inv-loop μ-loop
-array-write-to c = omega arith
+element-write-to : tie.Need-element-write-to Inv-loop μ-loop
+element-write-to c = omega arith
 
 add-a : tie.Need-add-a Inv-loop μ-loop
 add-a c = omega arith
@@ -67,7 +67,7 @@ steps-spec =
     root-requires
     facts-at-requires
     mul-to
-    array-write-to
+    element-write-to
     add-a
     loop-less
     loop-again

@@ -1,40 +1,38 @@
+-- `kept_at` gives the place of a pair: the numbers are small, so nothing overflows.
 use borrow.Author.Needs.{needs}
 use Rattle.visits.proofs.kept_at.Statement.{statement}
 use Rattle.visits.proofs.kept_at.Tie as tie
-use Rattle.visits.proofs.kept_at.Reads as reads
-use Rattle.visits.proofs.kept_at.Lts as lts
 use native.Mathlib.Omega.{arith}
-use Rattle.visits.proofs.Frame.{pair-in, pairs-few}
+use lib.ListN.{length}
+use Rattle.visits.proofs.Places.{pairs-before}
 
--- src/lib.rt:107:5
 element-copy-out-result : tie.Need-element-copy-out-result
 element-copy-out-result c = search needs
 
--- src/lib.rt:107:5
 cast-result : tie.Need-cast-result
 cast-result c = search needs
 
--- src/lib.rt:107:45
+mul-result : tie.Need-mul-result
+mul-result c = search needs
+
 add-result : tie.Need-add-result
 add-result c = search needs
 
--- src/lib.rt:107:28
-mul-result : tie.Need-mul-result
-mul-result c = omega (arith, pair-in (c .before .args .given .now) (c .before .args .line .now) (c .before .args .node) (c .before .args .pos) (c .before .pre .1 .0) (c .before .pre .1 .1), pairs-few (c .before .args .given .now) (c .before .args .line .now) (c .before .pre .0))
-
--- src/lib.rt:107:28
 add-result-2 : tie.Need-add-result-2
-add-result-2 c = omega (arith, pair-in (c .before .args .given .now) (c .before .args .line .now) (c .before .args .node) (c .before .args .pos) (c .before .pre .1 .0) (c .before .pre .1 .1), pairs-few (c .before .args .given .now) (c .before .args .line .now) (c .before .pre .0))
+add-result-2 c = search needs
 
--- src/lib.rt:107:27
 mul-result-2 : tie.Need-mul-result-2
-mul-result-2 c = omega (arith, pair-in (c .before .args .given .now) (c .before .args .line .now) (c .before .args .node) (c .before .args .pos) (c .before .pre .1 .0) (c .before .pre .1 .1), pairs-few (c .before .args .given .now) (c .before .args .line .now) (c .before .pre .0))
+mul-result-2 c = omega (arith, pairs-before (c .before .args .node) (length (c .before .args .line .now)) (c .before .pre .1 .1 .0) (c .before .pre .0))
 
--- src/lib.rt:107:5
 add-result-3 : tie.Need-add-result-3
-add-result-3 c = omega (arith, pair-in (c .before .args .given .now) (c .before .args .line .now) (c .before .args .node) (c .before .args .pos) (c .before .pre .1 .0) (c .before .pre .1 .1), pairs-few (c .before .args .given .now) (c .before .args .line .now) (c .before .pre .0))
+add-result-3 c = omega (arith, pairs-before (c .before .args .node) (length (c .before .args .line .now)) (c .before .pre .1 .1 .0) (c .before .pre .0))
 
--- src/lib.rt:103:1
+mul-result-3 : tie.Need-mul-result-3
+mul-result-3 c = omega (arith, pairs-before (c .before .args .node) (length (c .before .args .line .now)) (c .before .pre .1 .1 .0) (c .before .pre .0))
+
+add-result-4 : tie.Need-add-result-4
+add-result-4 c = omega (arith, pairs-before (c .before .args .node) (length (c .before .args .line .now)) (c .before .pre .1 .1 .0) (c .before .pre .0))
+
 returns : tie.Need-returns
 returns c = search needs
 
@@ -44,9 +42,11 @@ kept-at-spec =
     (tie.spec
     element-copy-out-result
     cast-result
-    add-result
     mul-result
+    add-result
     add-result-2
     mul-result-2
     add-result-3
+    mul-result-3
+    add-result-4
     returns)

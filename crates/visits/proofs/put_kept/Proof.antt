@@ -1,36 +1,28 @@
+-- `put_kept` writes its two words.
 use borrow.Author.Needs.{needs}
 use Rattle.visits.proofs.put_kept.Statement.{statement}
 use Rattle.visits.proofs.put_kept.Tie as tie
-use Rattle.visits.proofs.put_kept.Reads as reads
-use Rattle.visits.proofs.put_kept.Lts as lts
 use native.Mathlib.Numerals.{add-one}
 use mathlib.Core.Path.{refl}
 
--- src/lib.rt:115:5
 mul-work : tie.Need-mul-work
 mul-work c = search needs
 
--- src/lib.rt:115:5
 slice-write-work : tie.Need-slice-write-work
 slice-write-work c = search needs
 
--- src/lib.rt:116:10
 add-work : tie.Need-add-work
 add-work c = search needs
 
--- src/lib.rt:116:5
 mul-work-2 : tie.Need-mul-work-2
 mul-work-2 c = search needs
 
--- src/lib.rt:116:5
 slice-write-work-2 : tie.Need-slice-write-work-2
 slice-write-work-2 c = search needs
 
--- src/lib.rt:111:1
 same-length : tie.Need-same-length
 same-length c = search needs
 
--- src/lib.rt:111:1
 returns : tie.Need-returns
 returns c = rw (add-one (c .args .at)) refl
 

@@ -1,56 +1,43 @@
+-- `put_use` writes its three words.
 use borrow.Author.Needs.{needs}
 use Rattle.visits.proofs.put_use.Statement.{statement}
 use Rattle.visits.proofs.put_use.Tie as tie
-use Rattle.visits.proofs.put_use.Reads as reads
-use Rattle.visits.proofs.put_use.Lts as lts
 use native.Mathlib.Numerals.{add-one}
 use native.Mathlib.Omega.{arith}
-use mathlib.Core.Path.{refl}
+use mathlib.Core.Path.{_≡_, refl}
 use lib.ListN.{length-set}
 use Prim.Native.Nat.{suc, _+_, _*_}
-use mathlib.Core.Path.{_≡_}
 
--- src/lib.rt:80:14
 mul-at : tie.Need-mul-at
 mul-at c = search needs
 
--- src/lib.rt:81:5
 mul-work : tie.Need-mul-work
 mul-work c = search needs
 
--- src/lib.rt:81:5
 slice-write-work : tie.Need-slice-write-work
 slice-write-work c = search needs
 
--- src/lib.rt:82:10
 add-work : tie.Need-add-work
 add-work c = search needs
 
--- src/lib.rt:82:5
 mul-work-2 : tie.Need-mul-work-2
 mul-work-2 c = search needs
 
--- src/lib.rt:82:5
 slice-write-work-2 : tie.Need-slice-write-work-2
 slice-write-work-2 c = simp length-set (omega arith)
 
--- src/lib.rt:83:10
 add-work-2 : tie.Need-add-work-2
 add-work-2 c = search needs
 
--- src/lib.rt:83:5
 mul-work-3 : tie.Need-mul-work-3
 mul-work-3 c = search needs
 
--- src/lib.rt:83:5
 slice-write-work-3 : tie.Need-slice-write-work-3
 slice-write-work-3 c = search needs
 
--- src/lib.rt:76:1
 same-length : tie.Need-same-length
 same-length c = search needs
 
--- src/lib.rt:76:1
 returns : tie.Need-returns
 returns c =
     let e : c .args .live * 3 + 2 ≡ suc (suc (c .args .live * 3)) = omega arith in

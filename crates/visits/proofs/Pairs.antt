@@ -1,0 +1,100 @@
+-- Two visits one after the other, of a sequence or of a repetition: where the second starts, and what comes of both.
+use mathlib.Core.Path.{_≡_, refl, _∙_}
+use mathlib.Core.Logic.{_≢_}
+use mathlib.Core.List.{List}
+use Prim.Native.Nat.{ℕ, _+_, _*_, _<_, _≤_}
+use native.Mathlib.Omega.{arith}
+use lib.ListN.{length}
+use Rattle.meaning.specs.Grammar.{Trees, _⋈_, Note}
+use Rattle.meaning.specs.Reading.{State, Run, after, second, repeated}
+use Rattle.cells.specs.Cells.{treesAt}
+use Rattle.cells.specs.Arena.{Arena}
+use Rattle.visits.specs.Given.{Given, nodesIn, allowanceIn, leftIn, liveIn}
+use Rattle.visits.specs.Words.{topIn, madeIn, Added}
+use Rattle.visits.specs.Says.{FAILED, STOPPED, reading, endIn, listIn, after-visit, Came, Starts, Ends, EndsVisit}
+use Rattle.visits.proofs.Steps.{came-at}
+use Rattle.visits.proofs.Nodes.{seq-second, seq-join, rep-next, rep-join}
+use Rattle.visits.proofs.Ready.{ready-next}
+
+-- Cells that are added do not change how many visits are made.
+pub added-made : {w w′ : List ℕ} {top list top′ : ℕ} {ts : Trees} → Added w w′ top list top′ ts → madeIn w′ ≡ madeIn w
+added-made d = d .below 2043 (omega arith) (λ z. absurd (omega arith))
+
+-- Neither refused nor failed: matched.
+pub matched : {end a : ℕ} → end ≡ a → a ≤ FAILED → end ≢ STOPPED → end ≢ FAILED → end < STOPPED
+matched e h f g = omega arith
+
+module _ (given : Given) (line : List ℕ) {w₀ w₁ : List ℕ} (depth x pos a : ℕ) (ready : Starts given line w₀ depth x pos)
+    (first : EndsVisit given line w₀ w₁ depth a (λ l s. reading given line (leftIn depth) l x pos s)) (end : ℕ) (ends : end ≡ endIn a) (match : end < STOPPED) (y : ℕ) where
+  less : endIn a < STOPPED
+  less = omega arith
+
+  pub starts-second : y < nodesIn given → Starts given line w₁ depth y end
+  starts-second inside = ready-next y end ready (first .came) (first .cells) inside (rw ends (first .came .end-in less))
+
+  abbrev sequence : List Note → State → Run
+  sequence l s = after (reading given line (leftIn depth) l x pos s) (second (reading given line (leftIn depth) l) y)
+
+  abbrev repetition : List Note → State → Run
+  repetition l s = after (reading given line (leftIn depth) l x pos s) (repeated (reading given line (leftIn depth) l) y pos)
+
+  module _ {w₂ : List ℕ} (b : ℕ) (next : EndsVisit given line w₁ w₂ depth b (λ l s. reading given line (leftIn depth) l y end s)) (last : ℕ) (lasts : last ≡ endIn b) where
+    came-next : Came given line w₁ w₂ (liveIn depth) (madeIn w₁) (topIn w₁) (after-visit b w₂) (λ l s. reading given line (leftIn depth) l y (endIn a) s)
+    came-next = rw ends at next .came
+
+    -- The second did not match.
+    module _ (stop : STOPPED ≤ last) where
+      pub sequence-second : Ends given line w₀ w₂ depth b sequence
+      sequence-second = record {
+        came = seq-second given line (ready .fit) (reading given line (leftIn depth)) x pos (first .came) y less came-next (omega arith);
+        cells = omega (arith, first .cells, next .cells);
+      }
+
+      pub repetition-second : end ≢ pos → Ends given line w₀ w₂ depth b repetition
+      repetition-second on = record {
+        came = rep-next given line (ready .fit) (reading given line (leftIn depth)) x pos (first .came) y less (λ e. on (ends ∙ e)) came-next (omega arith);
+        cells = omega (arith, first .cells, next .cells);
+      }
+
+    -- Both matched: each made fewer cells than visits, so that there is room for the cell that joins their trees.
+    module _ (both : last < STOPPED) where
+      reached : endIn b < STOPPED
+      reached = omega arith
+
+      cells-left : topIn w₂ + madeIn w₀ + 2 ≤ topIn w₀ + madeIn w₂
+      cells-left = omega (arith, first .fewer less, next .fewer reached)
+
+      low : topIn w₂ < allowanceIn given
+      low = omega (arith, cells-left, ready .top-in, next .came .made-in)
+
+      module _ {left right : ℕ} (lists : left ≡ listIn a) (listed : right ≡ listIn b) where
+        pub join-ready : (Arena w₂ (topIn w₂) × ((left ≤ topIn w₂) × (right ≤ topIn w₂))) × ((2048 + 4 * topIn w₂ + 3 < length w₂) × (topIn w₂ < 1073741823))
+        join-ready =
+            let t = low in
+            let m = ready .fit .allowance in
+            let u = next .came .top-up in
+            let v = first .came .list-in less in
+            let w = next .came .list-in reached in
+            let z = next .came .words .room in
+            ((next .came .words .arena, (omega arith, omega arith)), (omega arith, omega arith))
+
+        module _ (few : liveIn depth + leftIn depth ≤ 512) {w₃ : List ℕ} (r : ℕ) (is : endIn r ≡ last) (d : Added w₂ w₃ (topIn w₂) (listIn r) (topIn w₃) (treesAt w₂ left ⋈ treesAt w₂ right)) where
+          added : Added w₂ w₃ (topIn w₂) (listIn r) (topIn w₃) (treesAt w₂ (listIn a) ⋈ treesAt w₂ (listIn b))
+          added = rw (lists, listed) at d
+
+          cells-joined : topIn w₃ + madeIn w₀ ≤ topIn w₀ + madeIn w₃
+          cells-joined = omega (arith, cells-left, d .one, added-made d)
+
+          pub sequence-joined : Ends given line w₀ w₃ depth r sequence
+          sequence-joined = record {
+            came = came-at given line (ready .fit .short) (endIn r) (listIn r) (topIn w₃) (madeIn w₃) (is ∙ lasts) refl refl (added-made d)
+                (seq-join given line (ready .fit) (reading given line (leftIn depth)) x pos (first .came) y less came-next reached (omega arith) low added);
+            cells = cells-joined;
+          }
+
+          pub repetition-joined : end ≢ pos → Ends given line w₀ w₃ depth r repetition
+          repetition-joined on = record {
+            came = came-at given line (ready .fit .short) (endIn r) (listIn r) (topIn w₃) (madeIn w₃) (is ∙ lasts) refl refl (added-made d)
+                (rep-join given line (ready .fit) (reading given line (leftIn depth)) x pos (first .came) y less (λ e. on (ends ∙ e)) came-next reached (omega arith) low added);
+            cells = cells-joined;
+          }
