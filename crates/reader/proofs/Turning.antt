@@ -1,19 +1,18 @@
 -- 01's checks in 01's order: which row answers a call, and that the working numbers end as 01 says.
-use mathlib.Core.Path.{_≡_, refl, sym, ap, subst, _∙_}
+use mathlib.Core.Path.{_≡_, refl, sym, ap, _∙_}
 use mathlib.Core.Logic.{_≢_}
-use mathlib.Core.Bool.{Bool, true, false, _||_, cond}
+use mathlib.Core.Bool.{Bool, true, false, cond}
 use mathlib.Core.List.{List, [], _∷_, _++_}
 use Prim.Native.Nat.{ℕ, _+_, _-_, _*_, _<_, _≤_}
 use native.Mathlib.Omega.{arith}
 use lib.ListN.{length, getD, set, drop, replicate, length-append, length-drop, length-replicate, getD-replicate, List·getD-append}
 use lib.Seq.{ext-getD, getD-drop, getD-append-add, getD-set-other, sets, length-sets}
-use lib.Dec.{ltb, eqb}
+use lib.Dec.{ltb}
 use borrow.Author.Tests.{lt-ltb, le-ltb, eq-eqb, ne-eqb, ltb-true, ltb-false}
 use Rattle.meaning.specs.Decide.{isFree}
-use Rattle.meaning.specs.Reading.{Run, read}
-use Rattle.sheet.specs.declared.Verdict.{Verdict}
+use Rattle.meaning.specs.Reading.{read}
 use Rattle.sheet.specs.Table.{nodesOf, grammarOf}
-use Rattle.sheet.specs.Check.{checkOf, Accepted}
+use Rattle.sheet.specs.Check.{checkOf}
 use Rattle.sheet.proofs.Accepting.{well-formed}
 use Rattle.cells.specs.Arena.{Arena}
 use Rattle.reader.specs.declared.Reading.{Reading}

@@ -1,16 +1,15 @@
 -- One node's application, kind by kind, and a use by whether answers are kept.
-use mathlib.Core.Path.{_≡_, refl, sym, subst, ap, _∙_}
+use mathlib.Core.Path.{_≡_, refl, sym, ap, _∙_}
 use mathlib.Core.Logic.{_≢_}
 use mathlib.Core.Bool.{Bool, true, false}
 use mathlib.Core.List.{List}
-use Prim.Native.Nat.{ℕ, zero, suc, _+_, _*_, _<_, _≤_}
+use Prim.Native.Nat.{ℕ, zero, suc, _+_, _<_, _≤_}
 use native.Mathlib.Omega.{arith}
 use lib.ListN.{length}
 use lib.Dec.{ltb}
 use borrow.Author.Tests.{lt-ltb, le-ltb}
-use Rattle.meaning.specs.Grammar.{fits, rootOf, Note}
-use Rattle.meaning.specs.Reading.{State, Run, Visit, byte, after, second, otherwise, denied, repeated, wrapped, apply, useRule}
-use Rattle.sheet.specs.Table.{decode}
+use Rattle.meaning.specs.Grammar.{fits}
+use Rattle.meaning.specs.Reading.{Run, byte, after, second, otherwise, denied, repeated, wrapped, apply, useRule}
 use Rattle.visits.specs.Given.{Given, kindIn, aIn, bIn, rootIn, nodesIn, rulesIn, keepsIn, allowanceIn, grammarIn, Fit}
 use Rattle.visits.specs.Words.{Words}
 use Rattle.visits.specs.Says.{Visited, FAILED, Came, reading, uses, grows, applies, endOf}

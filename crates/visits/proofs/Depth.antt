@@ -1,15 +1,15 @@
 -- Open visits left and live uses in one number, and the words' own numbers: what a visit is handed, and what comes back from it.
-use mathlib.Core.Path.{_≡_, refl, sym, _∙_}
+use mathlib.Core.Path.{_≡_}
 use mathlib.Core.Logic.{_≢_}
-use mathlib.Core.List.{List, [], _∷_}
-use Prim.Native.Nat.{ℕ, suc, _+_, _-_, _*_, _/_, _%_, _<_, _≤_}
+use mathlib.Core.List.{List}
+use Prim.Native.Nat.{ℕ, suc, _+_, _-_, _*_, _<_, _≤_}
 use native.Mathlib.Omega.{arith}
-use lib.ListN.{length, getD, set}
+use lib.ListN.{length, set}
 use Rattle.meaning.specs.Grammar.{Note}
 use Rattle.meaning.specs.Reading.{State, Run}
-use Rattle.visits.specs.Given.{Given, allowanceIn, leftIn, liveIn, Fit}
+use Rattle.visits.specs.Given.{Given, allowanceIn, leftIn, liveIn}
 use Rattle.visits.specs.Words.{keyOf, topIn, madeIn, Words}
-use Rattle.visits.specs.Says.{Visited, Ready, Came, Applied, Visits, after-visit, reading, Starts, Ends, EndsVisit}
+use Rattle.visits.specs.Says.{Came, after-visit, reading, Starts, Ends, EndsVisit}
 use Rattle.visits.proofs.Frame.{count-words, count-top, count-made}
 use Rattle.visits.proofs.Living.{usePut, use-other}
 use Rattle.visits.proofs.Ready.{ready-live}

@@ -1,18 +1,17 @@
 -- A visit before its work: EFFORT, DEEP, or one visit more that is counted and open.
-use mathlib.Core.Path.{_≡_, refl, sym, ap, _∙_}
+use mathlib.Core.Path.{_≡_, refl, sym, ap}
 use mathlib.Core.Bool.{Bool, true, false, and-eq-true-iff}
 use mathlib.Core.List.{List}
 use Prim.Native.Nat.{ℕ, zero, suc, _+_, _*_, _<_, _≤_}
 use native.Mathlib.Omega.{arith}
 use lib.ListN.{length, getD, set}
-use lib.Dec.{ltb, leb}
 use borrow.Author.Tests.{ltb-true, lt-ltb, le-ltb, le-leb, lt-leb}
 use native.Mathlib.Numerals.{add-one}
-use Rattle.meaning.specs.Grammar.{Answer, fail, ok, fits, Note, Grammar}
-use Rattle.meaning.specs.Reading.{State, Run, effort, deep, done, Visit, byte, counted, visited, visit}
+use Rattle.meaning.specs.Grammar.{fits, Note, Grammar}
+use Rattle.meaning.specs.Reading.{State, effort, deep, done, Visit, byte, counted, visited, visit}
 use Rattle.visits.specs.Given.{Given, allowanceIn, keepsIn, grammarIn, Fit}
 use Rattle.visits.specs.Words.{Stands, Words}
-use Rattle.visits.specs.Says.{Visited, FAILED, STOPPED, endOf, Says, Came}
+use Rattle.visits.specs.Says.{Visited, FAILED, STOPPED, endOf, Came}
 use Rattle.visits.proofs.Frame.{same-then, count-same, count-stands}
 use Rattle.visits.proofs.Steps.{came-as, still}
 use Rattle.visits.proofs.Nodes.{result, match-still, fail-still}

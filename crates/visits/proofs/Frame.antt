@@ -1,6 +1,5 @@
 -- What the words stand for is not changed by a step that leaves them the same where it counts.
-use mathlib.Core.Path.{_≡_, refl, sym, ap, _∙_}
-use mathlib.Core.Logic.{_≢_}
+use mathlib.Core.Path.{_≡_, refl, sym, _∙_}
 use mathlib.Core.Bool.{true}
 use mathlib.Core.List.{List, [], _∷_}
 use Prim.Native.Nat.{ℕ, _+_, _*_, _<_, _≤_}
@@ -9,11 +8,11 @@ use native.Mathlib.Omega.{arith}
 use lib.ListN.{length, getD, set, length-set}
 use lib.Seq.{getD-set-same, getD-set-other}
 use Rattle.meaning.specs.Reading.{State}
-use Rattle.meaning.specs.Grammar.{Trees, no-trees, tree, Answer, fail, ok, Note, look}
+use Rattle.meaning.specs.Grammar.{Trees, Answer, Note}
 use Rattle.cells.specs.Cells.{treesAt}
 use Rattle.cells.proofs.Frame.{trees-same, arena-same}
 use Rattle.sheet.proofs.Accepting.{well-formed}
-use Rattle.visits.specs.Given.{Given, nodesIn, keepsIn, baseIn, allowanceIn, pairsIn, roomIn, Fit}
+use Rattle.visits.specs.Given.{Given, nodesIn, keepsIn, baseIn, allowanceIn, pairsIn, Fit}
 use Rattle.visits.specs.Words.{HeldAs, Entry, Lives, topIn, madeIn, placeIn, keptAs, keptAt, Stands, Words, Same, Added}
 
 module _ (given : Given) (line : List ℕ) where

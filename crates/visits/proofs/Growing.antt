@@ -1,14 +1,13 @@
 -- Growing a use: what the loop keeps true, and what each way out of it says.
-use mathlib.Core.Path.{_≡_, refl, sym, subst, ap, ap₂, _∙_}
+use mathlib.Core.Path.{_≡_, refl, sym, subst, ap, _∙_}
 use mathlib.Core.Logic.{_≢_, _⊎_, inl, inr}
 use mathlib.Core.List.{List}
-use mathlib.Core.Option.{none}
-use mathlib.Core.Bool.{true, false}
+use mathlib.Core.Bool.{true}
 use Prim.Native.Nat.{ℕ, zero, suc, _+_, _*_, _<_, _≤_}
 use native.Mathlib.Omega.{arith}
 use lib.ListN.{length, getD}
 use borrow.Author.Tests.{lt-ltb, le-ltb}
-use Rattle.meaning.specs.Grammar.{Trees, no-trees, tree, Answer, fail, ok, wrap, rootOf, Note, noted, look}
+use Rattle.meaning.specs.Grammar.{Trees, no-trees, tree, Answer, fail, ok, wrap, rootOf, Note, noted}
 use Rattle.meaning.specs.Reading.{State, Run, effort, deep, done, after, Visit, wrapped, longer, attempted, grow, firstAttempt, useLive, useRule}
 use Rattle.cells.specs.Cells.{treesAt}
 use Rattle.visits.specs.Given.{Given, allowanceIn, grammarIn, Fit}

@@ -4,22 +4,22 @@ use mathlib.Core.Logic.{_≢_, _⊎_, inl, inr}
 use mathlib.Core.Bool.{Bool, true, false, cond}
 use mathlib.Core.List.{List, [], _∷_}
 use mathlib.Core.Option.{Option, none, some}
-use Prim.Native.Nat.{ℕ, zero, suc, _+_, _*_, _-_, _<_, _≤_}
+use Prim.Native.Nat.{ℕ, suc, _+_, _*_, _-_, _<_, _≤_}
 use native.Mathlib.Nat.{mul-le-mul-right}
 use native.Mathlib.Omega.{arith}
 use lib.ListN.{length, getD, set, length-set}
 use lib.Seq.{getD-set-same, getD-set-other, sets, length-sets}
 use lib.Dec.{eqb}
 use borrow.Author.Tests.{eqb-true, eqb-false}
-use Rattle.meaning.specs.Grammar.{Trees, Answer, fail, ok, Note, noted, look, node}
-use Rattle.meaning.specs.Reading.{State, Run, done, after, Visit, apply, keep, useRule, recall, visited}
+use Rattle.meaning.specs.Grammar.{Answer, fail, ok, Note, noted, look, node}
+use Rattle.meaning.specs.Reading.{State, Run, after, Visit, apply, keep, useRule, recall, visited}
 use Rattle.meaning.proofs.Notes.{look-same, look-other}
 use Rattle.cells.specs.Cells.{treesAt}
 use Rattle.cells.proofs.Frame.{arena-same}
-use Rattle.visits.specs.Given.{Given, lent, nodesIn, keepsIn, baseIn, allowanceIn, pairsIn, roomIn, grammarIn, Fit}
+use Rattle.visits.specs.Given.{Given, lent, nodesIn, keepsIn, baseIn, allowanceIn, pairsIn, grammarIn, Fit}
 use Rattle.visits.specs.Words.{placeIn, keptAs, keptAt, Stands, Words, Same, keptWord, Kept}
 use Rattle.visits.specs.Says.{Visited, FAILED, STOPPED, Says, Came}
-use Rattle.visits.proofs.Frame.{pair-in, same-trees, lives-same, same-none}
+use Rattle.visits.proofs.Frame.{pair-in, same-trees, lives-same}
 use Rattle.visits.proofs.Steps.{then-match, then-fail, stopped, came-as, came-when, still, came-failed}
 use Rattle.visits.proofs.Nodes.{result}
 

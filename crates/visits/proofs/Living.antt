@@ -1,23 +1,23 @@
 -- Live uses: a pair that is live gives what is held; a use that becomes live is one entry more.
 use mathlib.Core.Path.{_≡_, refl, sym, subst, ap, _∙_}
-use mathlib.Core.Logic.{_≢_, _⊎_, inl, inr}
+use mathlib.Core.Logic.{_≢_, inl, inr}
 use mathlib.Core.List.{List, [], _∷_}
-use mathlib.Core.Option.{Option, none, some}
-use mathlib.Core.Bool.{Bool, true, false}
+use mathlib.Core.Option.{none, some}
+use mathlib.Core.Bool.{false}
 use Prim.Native.Nat.{ℕ, suc, _+_, _*_, _-_, _<_, _≤_}
 use native.Mathlib.Omega.{arith}
 use lib.ListN.{length, getD, set, length-set}
 use lib.Seq.{getD-set-same, getD-set-other, sets, length-sets}
-use Rattle.meaning.specs.Grammar.{Trees, no-trees, tree, Answer, fail, ok, wrap, Grammar, rootOf, Note, noted, look}
+use Rattle.meaning.specs.Grammar.{Answer, fail, ok, wrap, rootOf, Note, noted, look}
 use Rattle.meaning.specs.Reading.{State, Run, effort, deep, done, Visit, useLive, useRule}
 use Rattle.meaning.proofs.Notes.{look-same, look-other}
 use Rattle.meaning.proofs.Answers.{found}
 use Rattle.cells.specs.Cells.{treesAt}
 use Rattle.cells.proofs.Frame.{arena-same}
-use Rattle.visits.specs.Given.{Given, nodesIn, keepsIn, baseIn, allowanceIn, pairsIn, roomIn, grammarIn, Fit}
+use Rattle.visits.specs.Given.{Given, baseIn, allowanceIn, grammarIn, Fit}
 use Rattle.visits.specs.Words.{keyOf, HeldAs, Entry, Lives, Stands, Words, Same}
-use Rattle.visits.specs.Says.{Visited, FAILED, STOPPED, Says, Came}
-use Rattle.visits.proofs.Frame.{same-then, same-trees, lives-same, stands-same}
+use Rattle.visits.specs.Says.{Visited, FAILED, Says, Came}
+use Rattle.visits.proofs.Frame.{same-then, same-trees, stands-same}
 use Rattle.visits.proofs.Steps.{still}
 use Rattle.visits.proofs.Nodes.{result}
 use Rattle.visits.proofs.Keeping.{by-same}

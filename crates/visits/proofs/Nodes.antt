@@ -1,20 +1,20 @@
 -- What the application of each kind of node comes to, return by return.
-use mathlib.Core.Path.{_≡_, refl, sym, ap, _∙_}
+use mathlib.Core.Path.{_≡_, refl, sym, ap}
 use mathlib.Core.Logic.{_≢_}
 use mathlib.Core.Bool.{Bool, true, false}
 use mathlib.Core.List.{List}
-use Prim.Native.Nat.{ℕ, suc, _+_, _*_, _<_, _≤_}
+use Prim.Native.Nat.{ℕ, _*_, _<_, _≤_}
 use native.Mathlib.Omega.{arith}
 use lib.Dec.{eqb}
 use lib.ListN.{length}
 use borrow.Author.Tests.{eq-eqb, ne-eqb}
-use Rattle.meaning.specs.Grammar.{Trees, no-trees, tree, _⋈_, Answer, fail, ok, wrap, fits, Note}
-use Rattle.meaning.specs.Reading.{State, Run, done, after, Visit, byte, joined, second, otherwise, denied, repeatFrom, repeated, wrapped}
+use Rattle.meaning.specs.Grammar.{Trees, no-trees, tree, _⋈_, fail, ok, wrap, Note}
+use Rattle.meaning.specs.Reading.{State, Run, done, after, Visit, joined, second, otherwise, denied, repeatFrom, repeated, wrapped}
 use Rattle.cells.specs.Cells.{treesAt}
 use Rattle.cells.proofs.Frame.{trees-none}
 use Rattle.visits.specs.Given.{Given, allowanceIn, Fit}
-use Rattle.visits.specs.Words.{Added, Stands, Words}
-use Rattle.visits.specs.Says.{Visited, FAILED, STOPPED, Says, Came}
+use Rattle.visits.specs.Words.{Added, Words}
+use Rattle.visits.specs.Says.{Visited, FAILED, STOPPED, Came}
 use Rattle.visits.proofs.Frame.{same-trees}
 use Rattle.visits.proofs.Steps.{then-match, then-fail, stopped, unmatched, unfailed, came-as, still, came-made}
 

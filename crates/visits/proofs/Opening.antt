@@ -1,17 +1,17 @@
 -- A visit that is counted and open: by the answer that is kept, or by the node's application.
-use mathlib.Core.Path.{_≡_, refl, sym, ap, _∙_}
-use mathlib.Core.Logic.{_≢_, _⊎_, inl, inr}
-use mathlib.Core.Bool.{Bool, true, false, cond}
-use mathlib.Core.List.{List, [], _∷_}
-use Prim.Native.Nat.{ℕ, suc, _+_, _-_, _*_, _<_, _≤_}
+use mathlib.Core.Path.{_≡_, refl, ap, _∙_}
+use mathlib.Core.Logic.{_≢_}
+use mathlib.Core.Bool.{Bool, true, false}
+use mathlib.Core.List.{List, []}
+use Prim.Native.Nat.{ℕ, _+_, _-_, _*_, _<_, _≤_}
 use native.Mathlib.Omega.{arith}
-use lib.ListN.{length, getD, set, length-set}
+use lib.ListN.{length, getD, set}
 use Rattle.sheet.proofs.Accepting.{well-formed}
-use Rattle.meaning.specs.Grammar.{fits, Note}
-use Rattle.meaning.specs.Reading.{State, Run, byte}
+use Rattle.meaning.specs.Grammar.{fits}
+use Rattle.meaning.specs.Reading.{byte}
 use Rattle.visits.specs.Given.{Given, lent, kindIn, aIn, bIn, nodesIn, keepsIn, allowanceIn, plainRange, roomIn, leftIn, liveIn, Fit}
-use Rattle.visits.specs.Words.{topIn, madeIn, placeIn, Words, Roomy, keptWord, Kept}
-use Rattle.visits.specs.Says.{FAILED, STOPPED, endOf, endIn, listIn, Visited, after-visit, Came, Visits, reading, applies, opens, Starts, Ends, EndsVisit}
+use Rattle.visits.specs.Words.{topIn, madeIn, placeIn, Roomy, keptWord, Kept}
+use Rattle.visits.specs.Says.{FAILED, STOPPED, endOf, endIn, listIn, Visited, Came, reading, applies, opens, Starts, Ends, EndsVisit}
 use Rattle.visits.proofs.Frame.{pair-in, count-top, count-made}
 use Rattle.visits.proofs.Steps.{came-at}
 use Rattle.visits.proofs.Nodes.{result}
@@ -19,7 +19,7 @@ use Rattle.visits.proofs.Enter.{enter-open}
 use Rattle.visits.proofs.Keeping.{by-same, put-other, visited-plain, word-fail, word-match, applied-kept}
 use Rattle.visits.proofs.ByKind.{apply-range}
 use borrow.Author.Tests.{eqb-true}
-use Rattle.visits.proofs.Depth.{left-less, live-less, counted-words, came-open, cells-open}
+use Rattle.visits.proofs.Depth.{left-less, counted-words, came-open, cells-open}
 
 -- There is room for what is kept.
 pub roomy : (given : Given) (line w : List ℕ) (i x : ℕ) → Fit given line → roomIn given line ≤ length w → i < nodesIn given → x ≤ length line → Roomy (lent [] (given .numbers)) line w i x

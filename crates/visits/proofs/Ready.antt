@@ -1,16 +1,16 @@
 -- When a visit may start: after another one, with one use more live, at a child of a node.
-use mathlib.Core.Path.{_≡_, refl, sym, subst, ap, _∙_}
+use mathlib.Core.Path.{_≡_, sym, subst, ap}
 use mathlib.Core.List.{List}
-use Prim.Native.Nat.{ℕ, suc, _+_, _*_, _<_, _≤_}
+use Prim.Native.Nat.{ℕ, _+_, _*_, _<_, _≤_}
 use native.Mathlib.Omega.{arith}
-use lib.ListN.{length, getD}
+use lib.ListN.{length}
 use Rattle.meaning.specs.Grammar.{node, rootOf, Below, Note}
 use Rattle.meaning.specs.Reading.{State, Run, Visit, apply}
 use Rattle.sheet.specs.Table.{decode}
 use Rattle.sheet.proofs.Accepting.{well-formed, node-count, rule-count, closed}
 use Rattle.sheet.proofs.Accepting.{root-is as root-of-grammar, node-as as node-of-table}
-use Rattle.visits.specs.Given.{Given, kindIn, aIn, bIn, rootIn, nodesIn, rulesIn, allowanceIn, grammarIn, Fit}
-use Rattle.visits.specs.Words.{keyOf, Words}
+use Rattle.visits.specs.Given.{Given, kindIn, aIn, bIn, rootIn, nodesIn, rulesIn, grammarIn, Fit}
+use Rattle.visits.specs.Words.{keyOf}
 use Rattle.visits.specs.Says.{Visited, Ready, Came, reading, uses, applies}
 use Rattle.visits.proofs.Steps.{came-as}
 use Rattle.visits.proofs.Living.{usePut, live-words}
@@ -34,14 +34,6 @@ module _ {given : Given} {line : List ℕ} where
     made-in = r .made-in;
     top-in = r .top-in;
   })
-
-  -- A visit that is counted.
-  pub ready-open : {w : List ℕ} {left live made top i pos : ℕ} (d : ℕ) → Ready given line w left live made top i pos → made < allowanceIn given → left ≡ suc d
-      → Ready given line w d live (made + 1) top i pos
-  ready-open d r lt e =
-      let t = r .top-in in
-      let o = r .open-in in
-      record { fit = r .fit; words = r .words; node-in = r .node-in; pos-in = r .pos-in; open-in = omega arith; made-in = omega arith; top-in = omega arith }
 
   -- Another attempt of the growing loop.
   pub ready-loop : {w₀ : List ℕ} {left live made top root pos : ℕ} {v : List Note → Visit} {a x end₀ made₀ top₀ : ℕ} {w₁ w : List ℕ} {end made′ top′ : ℕ} → Ready given line w₀ left live made top root pos → top₀ ≤ made₀

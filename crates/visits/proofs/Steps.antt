@@ -1,17 +1,17 @@
 -- How the results of steps are put together, as the runs are: one after another, or one alone.
-use mathlib.Core.Path.{_≡_, refl, sym, subst, ap, ap₂, _∙_}
+use mathlib.Core.Path.{_≡_, refl, subst, ap₂}
 use mathlib.Core.Logic.{_≢_}
 use mathlib.Core.List.{List}
-use Prim.Native.Nat.{ℕ, _+_, _*_, _<_, _≤_}
+use Prim.Native.Nat.{ℕ, _*_, _<_, _≤_}
 use native.Mathlib.Omega.{arith}
 use lib.ListN.{length}
 use Rattle.meaning.specs.Grammar.{Trees, Answer, fail, ok, Note}
 use Rattle.meaning.specs.Reading.{State, Run, effort, deep, done, after}
 use Rattle.cells.specs.Cells.{treesAt}
 use Rattle.visits.specs.Given.{Given, allowanceIn, Fit}
-use Rattle.visits.specs.Words.{Added, Stands, Words, Same}
-use Rattle.visits.specs.Says.{Visited, FAILED, STOPPED, Refused, Failed, Matched, Says, Came}
-use Rattle.visits.proofs.Frame.{same-none, same-then, same-trees, stands-same, made-same, made-kept, made-words}
+use Rattle.visits.specs.Words.{Added, Stands, Words}
+use Rattle.visits.specs.Says.{Visited, FAILED, STOPPED, Says, Came}
+use Rattle.visits.proofs.Frame.{same-none, same-then, stands-same, made-same, made-kept, made-words}
 
 module _ (given : Given) (line : List ℕ) (short : length line ≤ 255) where
   module _ (w : List ℕ) (live : ℕ) (l : List Note) (a : Visited) (k : Answer → State → Run) where

@@ -24,7 +24,7 @@ const ALLOWANCE: u64 = 2_500;
 const WORK: usize = 16_384;
 
 const LINES: usize = 1_000;
-const REPETITIONS: usize = 15;
+const REPETITIONS: usize = 60;
 
 /// Calls timed together, so that reading the clock weighs little.
 const CALLS: u32 = 4;
@@ -140,7 +140,7 @@ fn full(last_may_be_empty: bool) -> cases::Sheet {
 /// The least time of a report by each reader, and the ratio to the baseline.
 fn print_reports(readers: &[Reader], table: &[u8]) {
     let mut least = vec![f64::INFINITY; readers.len()];
-    for _ in 0..REPETITIONS * 20 {
+    for _ in 0..REPETITIONS * 5 {
         for (reader, least) in readers.iter().zip(&mut least) {
             assert_eq!((reader.report)(table), (readers[0].report)(table));
             let once = time_calls(|| {

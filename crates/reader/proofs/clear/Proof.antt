@@ -1,7 +1,5 @@
 use Rattle.reader.proofs.clear.Statement.{statement}
 use Rattle.reader.proofs.clear.Tie as tie
-use Rattle.reader.proofs.clear.Reads as reads
-use Rattle.reader.proofs.clear.Lts as lts
 use Prim.Native.Nat.{ℕ, _-_, _≤_}
 use native.Mathlib.Omega.{arith}
 use borrow.Author.Needs.{needs}

@@ -7,14 +7,6 @@ use Rattle.cells.specs.Cells.{treesAt}
 use Rattle.reader.proofs.Finishing.{matched, arena-of, by-refusal, by-failure, by-match, as-rest, as-records, as-room, as-read, true-count, over-count}
 use Rattle.reader.proofs.finish.Statement.{statement}
 use Rattle.reader.proofs.finish.Tie as tie
-use Rattle.reader.proofs.finish.Reads as reads
-use Rattle.reader.proofs.finish.Lts as lts
-use Rattle.cells.proofs.records_of.Reads as records-of-reads
-use Rattle.cells.proofs.write.Reads as write-reads
-use Rattle.reader.proofs.unread.Reads as unread-reads
-use Rattle.visits.proofs.end_of.Reads as end-of-reads
-use Rattle.visits.proofs.list_of.Reads as list-of-reads
-use Rattle.visits.proofs.visits_made.Reads as visits-made-reads
 
 visits-made-requires : tie.Need-visits-made-requires
 visits-made-requires c κs = search needs

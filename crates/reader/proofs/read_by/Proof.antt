@@ -1,17 +1,10 @@
 use borrow.Author.Needs.{needs}
 use Rattle.reader.proofs.read_by.Statement.{statement}
 use Rattle.reader.proofs.read_by.Tie as tie
-use Rattle.reader.proofs.read_by.Reads as reads
-use Rattle.reader.proofs.read_by.Lts as lts
-use Rattle.reader.proofs.read_line.Reads as read-line-reads
-use Rattle.reader.proofs.turned_away.Reads as turned-away-reads
-use Rattle.reader.proofs.work_needed.Reads as work-needed-reads
-use Rattle.sheet.proofs.check.Reads as check-reads
-use Rattle.sheet.proofs.node_count.Reads as node-count-reads
 use borrow.Author.Needs.{needs}
 use native.Mathlib.Omega.{arith}
-use mathlib.Core.Path.{_≡_, refl, sym, ap, _∙_}
-use Rattle.sheet.proofs.Accepting.{accepted-by, well-formed}
+use mathlib.Core.Path.{_≡_, sym, ap, _∙_}
+use Rattle.sheet.proofs.Accepting.{accepted-by}
 use Prim.Native.Nat.{_<_}
 use lib.ListN.{length}
 use Rattle.sheet.specs.Table.{nodesOf}

@@ -1,17 +1,9 @@
 use borrow.Author.Needs.{needs}
 use Rattle.reader.proofs.read_line.Statement.{statement}
 use Rattle.reader.proofs.read_line.Tie as tie
-use Rattle.reader.proofs.read_line.Reads as reads
-use Rattle.reader.proofs.read_line.Lts as lts
-use Rattle.cells.proofs.no_cells.Reads as no-cells-reads
-use Rattle.reader.proofs.clear.Reads as clear-reads
-use Rattle.reader.proofs.finish.Reads as finish-reads
-use Rattle.reader.proofs.kept_from.Reads as kept-from-reads
-use Rattle.reader.proofs.start.Reads as start-reads
-use Rattle.report.proofs.is_free.Reads as is-free-reads
 use borrow.Author.Needs.{needs}
 use native.Mathlib.Omega.{arith}
-use mathlib.Core.Path.{_≡_, sym, _∙_}
+use mathlib.Core.Path.{_∙_}
 use Prim.Native.Nat.{_+_, _*_, _≤_}
 use Rattle.sheet.specs.Table.{grammarOf}
 use Rattle.meaning.specs.Reading.{read}

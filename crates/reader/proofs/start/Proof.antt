@@ -4,12 +4,6 @@ use mathlib.Core.Path.{sym}
 use Rattle.reader.proofs.Starting.{some-rule, ready, tells, visiting}
 use Rattle.reader.proofs.start.Statement.{statement}
 use Rattle.reader.proofs.start.Tie as tie
-use Rattle.reader.proofs.start.Reads as reads
-use Rattle.reader.proofs.start.Lts as lts
-use Rattle.reader.proofs.flag.Reads as flag-reads
-use Rattle.sheet.proofs.first_node.Reads as first-node-reads
-use Rattle.visits.proofs.no_visits.Reads as no-visits-reads
-use Rattle.visits.proofs.read_line.Reads as read-line-reads
 
 first-node-requires : tie.Need-first-node-requires
 first-node-requires c κs = search needs

@@ -1,10 +1,8 @@
 use borrow.Author.Needs.{needs}
 use Rattle.reader.proofs.unread.Statement.{statement}
 use Rattle.reader.proofs.unread.Tie as tie
-use Rattle.reader.proofs.unread.Reads as reads
-use Rattle.reader.proofs.unread.Lts as lts
 use borrow.Author.Needs.{needs}
-use mathlib.Core.Path.{_≡_, refl, sym}
+use mathlib.Core.Path.{refl}
 
 returns : tie.Need-returns
 returns c =

@@ -1,12 +1,10 @@
 use borrow.Author.Needs.{needs}
 use Rattle.reader.proofs.work_needed.Statement.{statement}
 use Rattle.reader.proofs.work_needed.Tie as tie
-use Rattle.reader.proofs.work_needed.Reads as reads
-use Rattle.reader.proofs.work_needed.Lts as lts
 use borrow.Author.Needs.{needs}
 use native.Mathlib.Omega.{arith}
 use native.Mathlib.Nat.{mul-le-mul}
-use Prim.Native.Nat.{_+_, _*_, _≤_}
+use Prim.Native.Nat.{_+_, _≤_}
 
 mul-result : tie.Need-mul-result
 mul-result c = search needs

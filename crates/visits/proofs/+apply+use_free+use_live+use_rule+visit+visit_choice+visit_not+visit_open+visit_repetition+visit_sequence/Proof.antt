@@ -56,26 +56,25 @@ use Rattle.visits.proofs.+apply+use_free+use_live+use_rule+visit+visit_
 use Prim.Native.Nat.{_+_, _*_, _-_, _≤_}
 use borrow.Author.Needs.{needs}
 use native.Mathlib.Omega.{arith}
-use lib.ListN.{length, getD, set, length-set}
+use lib.ListN.{length, getD}
 use mathlib.Core.Logic.{inl, inr}
 use mathlib.Core.Path.{_≡_, refl, sym, ap, _∙_}
-use Rattle.meaning.specs.Grammar.{Answer, fail, ok, tree, no-trees}
+use Rattle.meaning.specs.Grammar.{tree, no-trees}
 use Rattle.cells.specs.Cells.{treesAt}
-use Rattle.visits.specs.Given.{lent, kindIn, aIn, bIn, nodesIn, rulesIn, rootIn, keepsIn, grammarIn, allowanceIn, leftIn, liveIn}
-use Rattle.visits.specs.Words.{topIn, madeIn, placeIn, keptWord, keyOf, Added}
+use Rattle.visits.specs.Given.{lent, rulesIn, leftIn, liveIn}
+use Rattle.visits.specs.Words.{topIn, madeIn, placeIn, keyOf, Added}
 use Rattle.visits.specs.Says.{reading, endIn, listIn, Starts}
 use Rattle.visits.proofs.Steps.{came-at}
 use Rattle.visits.proofs.Nodes.{seq-first, choice-first, choice-second, not-stop, not-match, not-fail, rep-stop, rep-none, rep-empty, use-unmatched, use-tree}
-use Rattle.visits.proofs.Enter.{visit-none-left, enter-effort, enter-deep, enter-open}
-use Rattle.visits.proofs.Frame.{pair-in, made-words, made-same, same-then, pairs-few, count-words, count-made, count-top}
-use Rattle.visits.proofs.Keeping.{word-fail, word-match, applied-kept}
+use Rattle.visits.proofs.Enter.{enter-effort, enter-deep}
+use Rattle.visits.proofs.Frame.{pair-in, pairs-few}
 use Rattle.visits.proofs.Living.{usePut, held-fail, held-match}
 use Rattle.visits.proofs.Ready.{ready-next, ready-at, root-is, root-in}
-use Rattle.visits.proofs.Depth.{left-less, live-less, left-more, live-more, counted-words, starts-open, came-open, cells-open, starts-live}
-use Rattle.visits.proofs.ByKind.{range-came, apply-rule, apply-sequence, apply-choice, apply-not, apply-repetition, apply-empty, apply-above, apply-range, uses-free, uses-grows, rule-used, sequence-children, choice-children, not-child, repetition-child, keeps-yes, keeps-no, above-six}
+use Rattle.visits.proofs.Depth.{left-less, live-less, starts-open, starts-live}
+use Rattle.visits.proofs.ByKind.{apply-rule, apply-sequence, apply-choice, apply-not, apply-repetition, apply-empty, apply-above, apply-range, uses-free, uses-grows, rule-used, sequence-children, choice-children, not-child, repetition-child, keeps-yes, keeps-no, above-six}
 use Rattle.sheet.proofs.Accepting.{well-formed}
 use Rattle.visits.proofs.Attempts.{GrowingIn, room-tree, first-attempt, first-ends, first-low, loop-begins, starts-next, next-attempt, next-stops, held-ends, next-low, loop-turns, loop-nearer}
-use Rattle.visits.proofs.Pairs.{added-made, matched, starts-second, sequence-second, sequence-joined, repetition-second, repetition-joined, join-ready}
+use Rattle.visits.proofs.Pairs.{matched, starts-second, sequence-second, sequence-joined, repetition-second, repetition-joined, join-ready}
 use Rattle.visits.proofs.Opening.{roomy, kept-failure, kept-match, open-applied, opened, range-at-once}
 
 abbrev μ-apply : Measures 7 apply-kinds.ps ℕ

@@ -4,20 +4,13 @@ use mathlib.Core.Path.{refl}
 use Rattle.visits.proofs.ByKind.{uses-free, uses-grows, keeps-yes, keeps-no}
 use Rattle.visits.proofs.first_use.Statement.{statement}
 use Rattle.visits.proofs.first_use.Tie as tie
-use Rattle.visits.proofs.first_use.Reads as reads
-use Rattle.visits.proofs.first_use.Lts as lts
-use Rattle.visits.proofs.use_free.Reads as use-free-reads
-use Rattle.visits.proofs.use_live.Reads as use-live-reads
 
--- src/lib.rt:526:8
 element-copy-out-if1 : tie.Need-element-copy-out-if1
 element-copy-out-if1 c = search needs
 
--- src/lib.rt:527:9
 use-free-requires : tie.Need-use-free-requires
 use-free-requires c κs = search needs
 
--- src/lib.rt:527:9
 returns : tie.Need-returns
 returns c =
     let at-start = c .before .before .before .before in
@@ -29,11 +22,9 @@ returns c =
       c .use-free .ensures .1,
     )
 
--- src/lib.rt:529:5
 use-live-requires : tie.Need-use-live-requires
 use-live-requires c κs = search needs
 
--- src/lib.rt:520:1
 returns-2 : tie.Need-returns-2
 returns-2 c =
     let at-start = c .before .before .before .before in

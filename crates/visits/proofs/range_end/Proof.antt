@@ -1,36 +1,26 @@
 use borrow.Author.Needs.{needs}
 use Rattle.visits.proofs.range_end.Statement.{statement}
 use Rattle.visits.proofs.range_end.Tie as tie
-use Rattle.visits.proofs.range_end.Reads as reads
-use Rattle.visits.proofs.range_end.Lts as lts
-use Rattle.visits.proofs.wide.Reads as wide-reads
 use Rattle.visits.proofs.Enter.{range-hit, range-low, range-high, range-past}
 
--- src/lib.rt:65:26
 shared-slice-read-wide : tie.Need-shared-slice-read-wide
 shared-slice-read-wide c = search needs
 
--- src/lib.rt:65:13
 wide-requires : tie.Need-wide-requires
 wide-requires c κs = search needs
 
--- src/lib.rt:68:24
 add-result : tie.Need-add-result
 add-result c = search needs
 
--- src/lib.rt:68:17
 returns : tie.Need-returns
 returns c = range-hit _ _ _ _ _ (c .before .before .wide .ensures .0) (c .before .before .before .before .if1 .taken) (c .before .if2 .taken) (c .if3 .taken)
 
--- src/lib.rt:59:1
 returns-2 : tie.Need-returns-2
 returns-2 c = range-high _ _ _ _ _ (c .before .before .wide .ensures .0) (c .before .before .before .before .if1 .taken) (c .before .if2 .taken) (c .if3 .left)
 
--- src/lib.rt:59:1
 returns-3 : tie.Need-returns-3
 returns-3 c = range-low _ _ _ _ _ (c .before .wide .ensures .0) (c .before .before .before .if1 .taken) (c .if2 .left)
 
--- src/lib.rt:59:1
 returns-4 : tie.Need-returns-4
 returns-4 c = range-past _ _ _ _ (c .if1 .left)
 
