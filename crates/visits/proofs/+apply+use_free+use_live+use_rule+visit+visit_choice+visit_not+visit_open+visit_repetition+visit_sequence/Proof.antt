@@ -1371,7 +1371,12 @@ visit-returns-3 t c =
     let at-range-end = c .before .range-end in
     let at-answer3 = c .answer3 in
     let ready = at-start .pre .1 in
-    (range-at-once (lent (at-start .args .table .now .now) (at-start .args .given .now)) (at-start .args .line .now .now) (at-start .args .work .now .now) (at-start .args .depth) (at-start .args .node) (at-start .args .pos) ready (at-if1 .left) (at-if2 .left) (sym (at-plain-range .ensures) ∙ at-if3 .taken) _ _ _ _ (at-a-of .ensures .0) (at-b-of .ensures .0) (at-range-end .ensures) (at-answer3 .ensures .0) (at-answer3 .ensures .1), refl)
+    let args = at-start .args in
+    let is-plain = sym (at-plain-range .ensures) ∙ at-if3 .taken in (
+      range-at-once (lent (args .table .now .now) (args .given .now)) (args .line .now .now) (args .work .now .now) (args .depth) (args .node) (args .pos) ready (at-if1 .left) (at-if2 .left) is-plain
+          _ _ _ _ (at-a-of .ensures .0) (at-b-of .ensures .0) (at-range-end .ensures) (at-answer3 .ensures .0) (at-answer3 .ensures .1),
+      refl,
+    )
 
 visit-sub-visit-open : (t : ℕ) → visit-lts.Need-sub-visit-open (visit-claims t) (visit-at t) visit.Post
 visit-sub-visit-open t c =
