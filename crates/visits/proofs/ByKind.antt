@@ -15,7 +15,7 @@ use Rattle.visits.specs.Words.{Words}
 use Rattle.visits.specs.Says.{Visited, FAILED, Came, reading, uses, grows, applies, endOf}
 use Rattle.visits.proofs.Steps.{came-as}
 use Rattle.visits.proofs.Nodes.{result, match-still}
-use Rattle.visits.proofs.Enter.{range-in, range-out}
+use Rattle.visits.proofs.Entering.{range-in, range-out}
 use Rattle.visits.proofs.Ready.{root-is, below-as, applied-as, rules-are}
 
 module _ (given : Given) (line : List ℕ) (fit : Fit given line) where

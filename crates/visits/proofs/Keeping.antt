@@ -17,7 +17,7 @@ use Rattle.meaning.proofs.Notes.{look-same, look-other}
 use Rattle.cells.specs.Cells.{treesAt}
 use Rattle.cells.proofs.Frame.{arena-same}
 use Rattle.visits.specs.Given.{Given, lent, nodesIn, keepsIn, baseIn, allowanceIn, pairsIn, grammarIn, Fit}
-use Rattle.visits.specs.Words.{placeIn, keptAs, keptAt, Stands, Words, Same, keptWord, Kept}
+use Rattle.visits.specs.Words.{placeIn, keptAs, keptAt, Stands, Words, Same, Kept}
 use Rattle.visits.specs.Says.{Visited, FAILED, STOPPED, Says, Came}
 use Rattle.visits.proofs.Frame.{pair-in, same-trees, lives-same}
 use Rattle.visits.proofs.Steps.{then-match, then-fail, stopped, came-as, came-when, still, came-failed}
@@ -226,46 +226,17 @@ module _ (given : Given) (line : List ℕ) where
                 record { end = refl; inside = inside; stands = keep-stands fit (c .words) free few low i x li lx (r .end + 2) (r .list) (omega arith) below (ok (r .end) (treesAt w′ (r .list))) (rw two refl) l s h },
               ))))
 
-    -- By the word that is kept: a failure, a match, or nothing.
-    module _ {w : List ℕ} {live made top : ℕ} (words : Words given line w live top) (le : made ≤ allowanceIn given) where
-      word-kept : 0 < keptWord (lent [] (given .numbers)) line w i x → (keepsIn given ≡ true) × (keptWord (lent [] (given .numbers)) line w i x ≡ getD w (placeIn given line i x) 0)
-      unfolding keptWord
-      word-kept h = by-test (keepsIn given) refl
-        where
-          by-test : (b : Bool) → keepsIn given ≡ b → (keepsIn given ≡ true) × (cond (keepsIn given) (getD w (placeIn given line i x) 0) 0 ≡ getD w (placeIn given line i x) 0)
-          by-test true q = (q, rw q refl)
-          by-test false q = let z : 0 < 0 = rw q at h in absurd (omega arith)
+    -- The node was applied, and its answer kept.
+    module _ {w : List ℕ} {live made top : ℕ} (words : Words given line w live top) (free : keepsIn given ≡ true) (le : made ≤ allowanceIn given) (none-kept : getD w (placeIn given line i x) 0 ≡ 0)
+        {w′ : List ℕ} {end list top′ made′ : ℕ} (c : Came given line w w′ live made top (result end list top′ made′) (working (keepsIn given)))
+        (few : live * 3 ≤ 2042) (low : top′ ≤ allowanceIn given) {w″ : List ℕ} (kept : Kept (lent [] (given .numbers)) line w′ w″ i x end list) where
+      by-end : (end ≡ STOPPED) ⊎ ((end ≡ FAILED) ⊎ (end < STOPPED)) → Came given line w w″ live made top (result end list top′ made′) visiting
+      by-end (inl e) = rw (kept .stopped e) (keep-stop words free le none-kept c e)
+      by-end (inr (inl e)) = came-failed given line (fit .short) 0 end list e (rw (kept .failed e) (keep-fail words free le none-kept c few low e))
+      by-end (inr (inr e)) = rw (kept .matched e) (keep-match words free le none-kept c few low e)
 
-      pub word-fail : keptWord (lent [] (given .numbers)) line w i x ≡ 1 → Came given line w w live made top (result FAILED 0 top made) visiting
-      word-fail e =
-          let k = word-kept (omega arith) in
-          let f = k .1 in
-          visited-fail words (k .0) le (omega arith)
+      which : end ≤ FAILED → (end ≡ STOPPED) ⊎ ((end ≡ FAILED) ⊎ (end < STOPPED))
+      which h = by-same end STOPPED (λ e. inl e) (λ n. by-same end FAILED (λ e. inr (inl e)) (λ k. inr (inr (omega arith))))
 
-      pub word-match : 1 < keptWord (lent [] (given .numbers)) line w i x → Came given line w w live made top (result (keptWord (lent [] (given .numbers)) line w i x - 2) (getD w (placeIn given line i x + 1) 0) top made) visiting
-      word-match lt =
-          let k = word-kept (omega arith) in
-          let f = k .1 in
-          rw f (visited-match words (k .0) le (getD w (placeIn given line i x) 0 - 2) (omega arith))
-
-      -- The node was applied, and its answer kept where answers are.
-      module _ (none-kept : keptWord (lent [] (given .numbers)) line w i x ≡ 0) {w′ : List ℕ} {end list top′ made′ : ℕ} (c : Came given line w w′ live made top (result end list top′ made′) (working (keepsIn given)))
-          (few : live * 3 ≤ 2042) (low : top′ ≤ allowanceIn given) {w″ : List ℕ} (kept : Kept (lent [] (given .numbers)) line w′ w″ i x end list) where
-        none-here : keepsIn given ≡ true → getD w (placeIn given line i x) 0 ≡ 0
-        unfolding keptWord
-        none-here q = rw q at none-kept
-
-        by-end : keepsIn given ≡ true → (end ≡ STOPPED) ⊎ ((end ≡ FAILED) ⊎ (end < STOPPED)) → Came given line w w″ live made top (result end list top′ made′) visiting
-        by-end q (inl e) = rw (kept .stopped e) (keep-stop words q le (none-here q) c e)
-        by-end q (inr (inl e)) = came-failed given line (fit .short) 0 end list e (rw (kept .failed q e) (keep-fail words q le (none-here q) c few low e))
-        by-end q (inr (inr e)) = rw (kept .matched q e) (keep-match words q le (none-here q) c few low e)
-
-        which : end ≤ FAILED → (end ≡ STOPPED) ⊎ ((end ≡ FAILED) ⊎ (end < STOPPED))
-        which h = by-same end STOPPED (λ e. inl e) (λ n. by-same end FAILED (λ e. inr (inl e)) (λ k. inr (inr (omega arith))))
-
-        pub applied-kept : Came given line w w″ live made top (result end list top′ made′) visiting
-        applied-kept = by-test (keepsIn given) refl
-          where
-            by-test : (b : Bool) → keepsIn given ≡ b → Came given line w w″ live made top (result end list top′ made′) visiting
-            by-test true q = by-end q (which (c .end-most))
-            by-test false q = rw (kept .idle q) (visited-plain q c)
+      pub applied-kept : Came given line w w″ live made top (result end list top′ made′) visiting
+      applied-kept = by-end (which (c .end-most))

@@ -1,7 +1,7 @@
 pub mod Frame
 pub mod Steps
 pub mod Nodes
-pub mod Enter
+pub mod Entering
 pub mod Keeping
 pub mod Living
 pub mod Growing

@@ -24,35 +24,35 @@ added-made d = d .below 2043 (omega arith) (λ z. absurd (omega arith))
 pub matched : {end a : ℕ} → end ≡ a → a ≤ FAILED → end ≢ STOPPED → end ≢ FAILED → end < STOPPED
 matched e h f g = omega arith
 
-module _ (given : Given) (line : List ℕ) {w₀ w₁ : List ℕ} (depth x pos a : ℕ) (ready : Starts given line w₀ depth x pos)
-    (first : EndsVisit given line w₀ w₁ depth a (λ l s. reading given line (leftIn depth) l x pos s)) (end : ℕ) (ends : end ≡ endIn a) (match : end < STOPPED) (y : ℕ) where
+module _ (given : Given) (line : List ℕ) {w₀ w₁ : List ℕ} (spot x pos a : ℕ) (ready : Starts given line w₀ spot x pos)
+    (first : EndsVisit given line w₀ w₁ spot a (λ l s. reading given line (leftIn spot) l x pos s)) (end : ℕ) (ends : end ≡ endIn a) (match : end < STOPPED) (y : ℕ) where
   less : endIn a < STOPPED
   less = omega arith
 
-  pub starts-second : y < nodesIn given → Starts given line w₁ depth y end
+  pub starts-second : y < nodesIn given → Starts given line w₁ spot y end
   starts-second inside = ready-next y end ready (first .came) (first .cells) inside (rw ends (first .came .end-in less))
 
   abbrev sequence : List Note → State → Run
-  sequence l s = after (reading given line (leftIn depth) l x pos s) (second (reading given line (leftIn depth) l) y)
+  sequence l s = after (reading given line (leftIn spot) l x pos s) (second (reading given line (leftIn spot) l) y)
 
   abbrev repetition : List Note → State → Run
-  repetition l s = after (reading given line (leftIn depth) l x pos s) (repeated (reading given line (leftIn depth) l) y pos)
+  repetition l s = after (reading given line (leftIn spot) l x pos s) (repeated (reading given line (leftIn spot) l) y pos)
 
-  module _ {w₂ : List ℕ} (b : ℕ) (next : EndsVisit given line w₁ w₂ depth b (λ l s. reading given line (leftIn depth) l y end s)) (last : ℕ) (lasts : last ≡ endIn b) where
-    came-next : Came given line w₁ w₂ (liveIn depth) (madeIn w₁) (topIn w₁) (after-visit b w₂) (λ l s. reading given line (leftIn depth) l y (endIn a) s)
+  module _ {w₂ : List ℕ} (b : ℕ) (next : EndsVisit given line w₁ w₂ spot b (λ l s. reading given line (leftIn spot) l y end s)) (last : ℕ) (lasts : last ≡ endIn b) where
+    came-next : Came given line w₁ w₂ (liveIn spot) (madeIn w₁) (topIn w₁) (after-visit b w₂) (λ l s. reading given line (leftIn spot) l y (endIn a) s)
     came-next = rw ends at next .came
 
     -- The second did not match.
     module _ (stop : STOPPED ≤ last) where
-      pub sequence-second : Ends given line w₀ w₂ depth b sequence
+      pub sequence-second : Ends given line w₀ w₂ spot b sequence
       sequence-second = record {
-        came = seq-second given line (ready .fit) (reading given line (leftIn depth)) x pos (first .came) y less came-next (omega arith);
+        came = seq-second given line (ready .fit) (reading given line (leftIn spot)) x pos (first .came) y less came-next (omega arith);
         cells = omega (arith, first .cells, next .cells);
       }
 
-      pub repetition-second : end ≢ pos → Ends given line w₀ w₂ depth b repetition
+      pub repetition-second : end ≢ pos → Ends given line w₀ w₂ spot b repetition
       repetition-second on = record {
-        came = rep-next given line (ready .fit) (reading given line (leftIn depth)) x pos (first .came) y less (λ e. on (ends ∙ e)) came-next (omega arith);
+        came = rep-next given line (ready .fit) (reading given line (leftIn spot)) x pos (first .came) y less (λ e. on (ends ∙ e)) came-next (omega arith);
         cells = omega (arith, first .cells, next .cells);
       }
 
@@ -78,23 +78,23 @@ module _ (given : Given) (line : List ℕ) {w₀ w₁ : List ℕ} (depth x pos a
             let z = next .came .words .room in
             ((next .came .words .arena, (omega arith, omega arith)), (omega arith, omega arith))
 
-        module _ (few : liveIn depth + leftIn depth ≤ 512) {w₃ : List ℕ} (r : ℕ) (is : endIn r ≡ last) (d : Added w₂ w₃ (topIn w₂) (listIn r) (topIn w₃) (treesAt w₂ left ⋈ treesAt w₂ right)) where
+        module _ (few : liveIn spot + leftIn spot ≤ 512) {w₃ : List ℕ} (r : ℕ) (is : endIn r ≡ last) (d : Added w₂ w₃ (topIn w₂) (listIn r) (topIn w₃) (treesAt w₂ left ⋈ treesAt w₂ right)) where
           added : Added w₂ w₃ (topIn w₂) (listIn r) (topIn w₃) (treesAt w₂ (listIn a) ⋈ treesAt w₂ (listIn b))
           added = rw (lists, listed) at d
 
           cells-joined : topIn w₃ + madeIn w₀ ≤ topIn w₀ + madeIn w₃
           cells-joined = omega (arith, cells-left, d .one, added-made d)
 
-          pub sequence-joined : Ends given line w₀ w₃ depth r sequence
+          pub sequence-joined : Ends given line w₀ w₃ spot r sequence
           sequence-joined = record {
             came = came-at given line (ready .fit .short) (endIn r) (listIn r) (topIn w₃) (madeIn w₃) (is ∙ lasts) refl refl (added-made d)
-                (seq-join given line (ready .fit) (reading given line (leftIn depth)) x pos (first .came) y less came-next reached (omega arith) low added);
+                (seq-join given line (ready .fit) (reading given line (leftIn spot)) x pos (first .came) y less came-next reached (omega arith) low added);
             cells = cells-joined;
           }
 
-          pub repetition-joined : end ≢ pos → Ends given line w₀ w₃ depth r repetition
+          pub repetition-joined : end ≢ pos → Ends given line w₀ w₃ spot r repetition
           repetition-joined on = record {
             came = came-at given line (ready .fit .short) (endIn r) (listIn r) (topIn w₃) (madeIn w₃) (is ∙ lasts) refl refl (added-made d)
-                (rep-join given line (ready .fit) (reading given line (leftIn depth)) x pos (first .came) y less (λ e. on (ends ∙ e)) came-next reached (omega arith) low added);
+                (rep-join given line (ready .fit) (reading given line (leftIn spot)) x pos (first .came) y less (λ e. on (ends ∙ e)) came-next reached (omega arith) low added);
             cells = cells-joined;
           }

@@ -1,10 +1,10 @@
 -- What a reading is given: the table of the sheet, and three numbers, the allowance, whether answers are kept, and where the nodes start in the table.
 use Prim.Native.Nat.{ℕ, _+_, _*_, _/_, _%_, _<_, _≤_}
 use mathlib.Core.Path.{_≡_}
-use mathlib.Core.Bool.{Bool, false, cond}
+use mathlib.Core.Bool.{Bool}
 use mathlib.Core.List.{List}
 use lib.ListN.{length, getD}
-use lib.Dec.{ltb, eqb}
+use lib.Dec.{ltb}
 use Rattle.meaning.specs.Grammar.{Grammar}
 use Rattle.sheet.specs.Table.{nodesOf, rulesOf, rootOf, nodeAt, kindOf, aOf, bOf, grammarOf}
 use Rattle.sheet.specs.Check.{Accepted}
@@ -46,10 +46,6 @@ allowanceIn given = getD (given .numbers) 0 0
 abbrev pub keepsIn : Given → Bool
 keepsIn given = ltb 0 (getD (given .numbers) 1 0)
 
--- The node is a range, and nothing is kept.
-unfoldable pub plainRange : Given → ℕ → Bool
-plainRange given i = cond (keepsIn given) false (eqb (kindIn given i) 1)
-
 -- The first word of the kept answers.
 abbrev pub baseIn : Given → ℕ
 baseIn given = 2048 + 4 * allowanceIn given
@@ -69,9 +65,18 @@ pub record Fit (given : Given) (line : List ℕ) : Type 0 where
   pub short : length line ≤ 255
   pub allowance : allowanceIn given ≤ 1000000
 
--- A visit's number of open visits left, and of live uses, which are passed as one number.
+-- Where a visit stands, in one number: its position, the live uses, and the open visits left.
 abbrev pub leftIn : ℕ → ℕ
-leftIn depth = depth % 1024
+leftIn spot = spot % 1024
 
 abbrev pub liveIn : ℕ → ℕ
-liveIn depth = depth / 1024
+liveIn spot = spot % 4294967296 / 1024
+
+abbrev pub posIn : ℕ → ℕ
+posIn spot = spot / 4294967296
+
+-- The same at another position.
+pub record Moved (spot pos new : ℕ) : Type 0 where
+  pub left : leftIn new ≡ leftIn spot
+  pub live : liveIn new ≡ liveIn spot
+  pub there : posIn new ≡ pos

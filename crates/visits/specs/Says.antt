@@ -112,11 +112,11 @@ pub record Visits (given : Given) (line old new : List ℕ) (live made top : ℕ
   pub fewer : r .end < STOPPED → r .top + made < top + r .made
 
 -- The same, where the numbers stand in the words and in what is passed.
-abbrev pub Starts : (given : Given) (line w : List ℕ) (depth node pos : ℕ) → Type 0
-Starts given line w depth node pos = Ready given line w (leftIn depth) (liveIn depth) (madeIn w) (topIn w) node pos
+abbrev pub Starts : (given : Given) (line w : List ℕ) (spot node pos : ℕ) → Type 0
+Starts given line w spot node pos = Ready given line w (leftIn spot) (liveIn spot) (madeIn w) (topIn w) node pos
 
-abbrev pub Ends : (given : Given) (line old new : List ℕ) (depth r : ℕ) (m : List Note → State → Run) → Type 0
-Ends given line old new depth r m = Applied given line old new (liveIn depth) (madeIn old) (topIn old) (after-visit r new) m
+abbrev pub Ends : (given : Given) (line old new : List ℕ) (spot r : ℕ) (m : List Note → State → Run) → Type 0
+Ends given line old new spot r m = Applied given line old new (liveIn spot) (madeIn old) (topIn old) (after-visit r new) m
 
-abbrev pub EndsVisit : (given : Given) (line old new : List ℕ) (depth r : ℕ) (m : List Note → State → Run) → Type 0
-EndsVisit given line old new depth r m = Visits given line old new (liveIn depth) (madeIn old) (topIn old) (after-visit r new) m
+abbrev pub EndsVisit : (given : Given) (line old new : List ℕ) (spot r : ℕ) (m : List Note → State → Run) → Type 0
+EndsVisit given line old new spot r m = Visits given line old new (liveIn spot) (madeIn old) (topIn old) (after-visit r new) m

@@ -2,17 +2,17 @@
 -- of trees; kept answers, two words a pair.
 use Prim.Native.Nat.{ℕ, zero, suc, _+_, _-_, _*_, _<_, _≤_}
 use mathlib.Core.Path.{_≡_}
-use mathlib.Core.Logic.{_≢_}
-use mathlib.Core.Bool.{true, false, cond}
+use mathlib.Core.Logic.{_≢_, _⊎_}
+use mathlib.Core.Bool.{true}
 use mathlib.Core.List.{List, [], _∷_}
 use mathlib.Core.Option.{Option, none, some}
-use lib.ListN.{length, getD}
+use lib.ListN.{length, getD, set}
 use lib.Seq.{sets}
 use Rattle.meaning.specs.Grammar.{Trees, no-trees, tree, Answer, fail, ok, Note, look}
 use Rattle.meaning.specs.Reading.{State}
 use Rattle.cells.specs.Cells.{treesAt}
 use Rattle.cells.specs.Arena.{Arena}
-use Rattle.visits.specs.Given.{Given, nodesIn, keepsIn, baseIn, allowanceIn, pairsIn, roomIn}
+use Rattle.visits.specs.Given.{Given, nodesIn, keepsIn, baseIn, allowanceIn, pairsIn, roomIn, leftIn}
 
 -- A pair of a rule and a position as one number.
 abbrev pub keyOf : ℕ → ℕ → ℕ
@@ -92,6 +92,13 @@ pub record Added (old new : List ℕ) (top list top′ : ℕ) (ts : Trees) : Typ
   pub below : (i : ℕ) → i < 2048 + 4 * top → i ≢ 2042 → getD new i 0 ≡ getD old i 0
   pub above : (i : ℕ) → 2048 + 4 * top′ ≤ i → getD new i 0 ≡ getD old i 0
 
+-- A visit from the words old is refused, for effort or for depth, by its code; else it is counted.
+abbrev pub Entered : (given : Given) (old new : List ℕ) (spot code : ℕ) → Type 0
+Entered given old new spot code =
+    ((allowanceIn given ≤ madeIn old) × (code ≡ 11) × (new ≡ old))
+    ⊎ ((madeIn old < allowanceIn given) × (leftIn spot ≡ 0) × (code ≡ 12) × (new ≡ old))
+    ⊎ ((madeIn old < allowanceIn given) × (leftIn spot ≢ 0) × (code ≡ 0) × (new ≡ set old 2043 (madeIn old + 1)))
+
 -- There is room for the kept answer of a pair, and its place is a small number.
 pub record Roomy (given : Given) (line w : List ℕ) (i x : ℕ) : Type 0 where
   pub short : length line ≤ 255
@@ -100,13 +107,8 @@ pub record Roomy (given : Given) (line w : List ℕ) (i x : ℕ) : Type 0 where
   pub pos-in : x ≤ length line
   pub room : placeIn given line i x + 1 < length w
 
--- The word that is kept for a pair, 0 where nothing is.
-unfoldable pub keptWord : Given → List ℕ → List ℕ → ℕ → ℕ → ℕ
-keptWord given line w i x = cond (keepsIn given) (getD w (placeIn given line i x) 0) 0
-
--- What is kept once a pair is finished, where answers are kept: a failure, or the end and the list of a match.
+-- What is kept once a pair is finished: a failure, or the end and the list of a match.
 pub record Kept (given : Given) (line old new : List ℕ) (i x end list : ℕ) : Type 0 where
-  pub idle : keepsIn given ≡ false → new ≡ old
   pub stopped : end ≡ 65534 → new ≡ old
-  pub failed : keepsIn given ≡ true → end ≡ 65535 → new ≡ sets old (placeIn given line i x) (1 ∷ 0 ∷ [])
-  pub matched : keepsIn given ≡ true → end < 65534 → new ≡ sets old (placeIn given line i x) ((end + 2) ∷ list ∷ [])
+  pub failed : end ≡ 65535 → new ≡ sets old (placeIn given line i x) (1 ∷ 0 ∷ [])
+  pub matched : end < 65534 → new ≡ sets old (placeIn given line i x) ((end + 2) ∷ list ∷ [])

@@ -9,6 +9,7 @@
 // The visit calls itself for children and roots; the open visits left is the number that falls. It passes references to the slices, not the
 // slices, so that a call costs no copy of them; so each function says too that the working numbers it was lent are the ones that it gives back.
 ghost use mathlib.Core.Path.{_≡_};
+ghost use mathlib.Core.Bool.{true, false};
 ghost use mathlib.Core.Logic.{_≢_};
 ghost use mathlib.Core.List.{List, [], _∷_};
 ghost use Prim.Native.Nat.{ℕ, _+_, _*_, _/_, _%_, _<_, _≤_};
@@ -20,14 +21,19 @@ ghost use Rattle.sheet.specs.Table.{nodesOf, rulesOf, rootOf, nodeAt, kindOf, a
 ghost use Rattle.sheet.specs.Check.{Accepted};
 ghost use Rattle.cells.specs.Cells.{treesAt};
 ghost use Rattle.cells.specs.Arena.{Arena};
-ghost use Rattle.visits.specs.Given.{lent, nodesIn, rulesIn, rootIn, plainRange, leftIn, liveIn};
-ghost use Rattle.visits.specs.Words.{keyOf, topIn, madeIn, placeIn, Added, Roomy, keptWord, Kept, Found};
+ghost use Rattle.visits.specs.Given.{lent, kindIn, nodesIn, rulesIn, rootIn, keepsIn, leftIn, liveIn, posIn, Moved};
+ghost use Rattle.visits.specs.Words.{keyOf, topIn, madeIn, placeIn, Added, Entered, Roomy, Kept, Found};
 ghost use Rattle.visits.specs.Says.{reading, uses, grows, applies, opens, endOf, endIn, listIn, Starts, Ends, EndsVisit};
 
 // The ends that are no position.
 pub const FAILED: u32 = 65535;
 
 pub const STOPPED: u32 = 65534;
+
+// 01's codes of a refused visit.
+const EFFORT: u32 = 11;
+
+const DEEP: u32 = 12;
 
 fn wide(x: u8) -> u32
     ensures { λ r. ⌜ (r ≡ x) × (r < 256) ⌝ }
@@ -75,22 +81,37 @@ fn b_of(given: &[u32; 3], table: &[u8], node: u32) -> u32
     sheet::field_b_from(table, given[2] as usize, node as usize) as u32
 }
 
-// Whether the node is a range, and nothing is kept: such a visit is answered at once.
-fn plain_range(given: &[u32; 3], table: &[u8], node: u32) -> bool
-    requires { ⌜ Accepted (now table) × ((node < nodesOf (now table)) × (getD (now given) 2 0 ≡ nodeAt (rulesOf (now table)) 0)) ⌝ }
-    ensures { λ r. ⌜ r ≡ plainRange (lent (now (table .entry)) (now (given .entry))) node ⌝ }
-{
-    if given[1] != 0 {
-        return false;
-    }
-    kind_of(given, table, node) == 1
-}
-
 fn root_of(table: &[u8], rule: u32) -> u32
     requires { ⌜ Accepted (now table) × (rule < rulesOf (now table)) ⌝ }
     ensures { λ r. ⌜ (r ≡ rootOf (now (table .entry)) rule) × (r < nodesOf (now (table .entry))) ⌝ }
 {
     sheet::root(table, rule as usize) as u32
+}
+
+// Where a visit stands, in one number: its position, the live uses, and the open visits left.
+fn left_of(spot: u64) -> u32
+    ensures { λ r. ⌜ r ≡ leftIn spot ⌝ }
+{
+    (spot % 1024) as u32
+}
+
+fn live_of(spot: u64) -> u32
+    ensures { λ r. ⌜ r ≡ liveIn spot ⌝ }
+{
+    (spot % 4294967296 / 1024) as u32
+}
+
+fn pos_of(spot: u64) -> u32
+    ensures { λ r. ⌜ r ≡ posIn spot ⌝ }
+{
+    (spot / 4294967296) as u32
+}
+
+// The same at another position.
+fn moved(spot: u64, pos: u32) -> u64
+    ensures { λ r. ⌜ Moved spot pos r ⌝ }
+{
+    pos as u64 * 4294967296 + spot % 4294967296
 }
 
 // Where a byte in a range ends at a position, or FAILED.
@@ -191,23 +212,17 @@ fn kept_at(given: &[u32; 3], line: &[u8], node: u32, pos: u32) -> usize
 // The word that is kept for a pair, 0 where nothing is.
 fn kept_word(given: &[u32; 3], line: &[u8], work: &mut &mut [u32], node: u32, pos: u32) -> u32
     requires { ⌜ Roomy (lent [] (now given)) (now line) (now (now work)) node pos ⌝ }
-    ensures { λ r. ⌜ (r ≡ keptWord (lent [] (now (given .entry))) (now (line .entry)) (now (now (work .entry))) node pos) × (now (work .exit) ≡ now (work .entry)) ⌝ }
+    ensures { λ r. ⌜ (r ≡ getD (now (now (work .entry))) (placeIn (lent [] (now (given .entry))) (now (line .entry)) node pos) 0) × (now (work .exit) ≡ now (work .entry)) ⌝ }
 {
-    if given[1] == 0 {
-        return 0;
-    }
     let at = kept_at(given, line, node, pos);
     work[at]
 }
 
-// Keeps the answer of a finished pair, where answers are kept.
+// Keeps the answer of a finished pair.
 fn keep(given: &[u32; 3], line: &[u8], work: &mut [u32], node: u32, pos: u32, end: u32, list: u32)
     requires { ⌜ Roomy (lent [] (now given)) (now line) (now work) node pos × (end ≤ 65535) ⌝ }
     ensures { λ _. ⌜ Kept (lent [] (now (given .entry))) (now (line .entry)) (now (work .entry)) (now (work .exit)) node pos end list ⌝ }
 {
-    if given[1] == 0 {
-        return;
-    }
     if end == STOPPED {
         return;
     }
@@ -228,27 +243,45 @@ fn put_kept(work: &mut [u32], at: usize, word: u32, list: u32)
     work[at + 1] = list;
 }
 
+// Enters a visit: the code by which it is refused, EFFORT before DEEP, or 0, and then it is counted.
+fn enter(given: &[u32; 3], work: &mut &mut [u32], spot: u64) -> u32
+    requires { ⌜ (2048 ≤ length (now (now work))) × (getD (now given) 0 0 ≤ 1000000) ⌝ }
+    ensures says { λ r. ⌜ Entered (lent [] (now (given .entry))) (now (now (work .entry))) (now (now (work .exit))) spot r ⌝ }
+    ensures lent { λ _. ⌜ (now (work .exit)) .name ≡ (now (work .entry)) .name ⌝ }
+{
+    let allowance = given[0];
+    let made = work[2043];
+    let left = left_of(spot);
+    if allowance <= made {
+        return EFFORT;
+    }
+    if left == 0 {
+        return DEEP;
+    }
+    work[2043] = made + 1;
+    0
+}
+
 fn visit_sequence(
     given: &[u32; 3],
     table: &&[u8],
     line: &&[u8],
     work: &mut &mut [u32],
-    depth: u32,
+    spot: u64,
     x: u32,
     y: u32,
-    pos: u32,
 ) -> u64
-    requires ready { ⌜ Starts (lent (now (now table)) (now given)) (now (now line)) (now (now work)) depth x pos ⌝ }
-    requires open { ⌜ (liveIn depth + leftIn depth ≤ 512) × (y < nodesIn (lent (now (now table)) (now given))) ⌝ }
-    ensures says { λ r. ⌜ Ends (lent (now (now (table .entry))) (now (given .entry))) (now (now (line .entry))) (now (now (work .entry))) (now (now (work .exit))) depth r (λ (l : List Note) (s : State). after (reading (lent (now (now (table .entry))) (now (given .entry))) (now (now (line .entry))) (leftIn depth) l x pos s) (second (reading (lent (now (now (table .entry))) (now (given .entry))) (now (now (line .entry))) (leftIn depth) l) y)) ⌝ }
+    requires ready { ⌜ Starts (lent (now (now table)) (now given)) (now (now line)) (now (now work)) spot x (posIn spot) ⌝ }
+    requires open { ⌜ (liveIn spot + leftIn spot ≤ 512) × (y < nodesIn (lent (now (now table)) (now given))) ⌝ }
+    ensures says { λ r. ⌜ Ends (lent (now (now (table .entry))) (now (given .entry))) (now (now (line .entry))) (now (now (work .entry))) (now (now (work .exit))) spot r (λ (l : List Note) (s : State). after (reading (lent (now (now (table .entry))) (now (given .entry))) (now (now (line .entry))) (leftIn spot) l x (posIn spot) s) (second (reading (lent (now (now (table .entry))) (now (given .entry))) (now (now (line .entry))) (leftIn spot) l) y)) ⌝ }
     ensures lent { λ _. ⌜ (now (work .exit)) .name ≡ (now (work .entry)) .name ⌝ }
 {
-    let a = visit(given, table, line, work, depth, x, pos);
+    let a = visit(given, table, line, work, spot, x);
     let end = end_of(a);
     if STOPPED <= end {
         return a;
     }
-    let b = visit(given, table, line, work, depth, y, end);
+    let b = visit(given, table, line, work, moved(spot, end), y);
     let last = end_of(b);
     if STOPPED <= last {
         return b;
@@ -261,22 +294,21 @@ fn visit_choice(
     table: &&[u8],
     line: &&[u8],
     work: &mut &mut [u32],
-    depth: u32,
+    spot: u64,
     x: u32,
     y: u32,
-    pos: u32,
 ) -> u64
-    requires ready { ⌜ Starts (lent (now (now table)) (now given)) (now (now line)) (now (now work)) depth x pos ⌝ }
-    requires open { ⌜ (liveIn depth + leftIn depth ≤ 512) × (y < nodesIn (lent (now (now table)) (now given))) ⌝ }
-    ensures says { λ r. ⌜ Ends (lent (now (now (table .entry))) (now (given .entry))) (now (now (line .entry))) (now (now (work .entry))) (now (now (work .exit))) depth r (λ (l : List Note) (s : State). after (reading (lent (now (now (table .entry))) (now (given .entry))) (now (now (line .entry))) (leftIn depth) l x pos s) (otherwise (reading (lent (now (now (table .entry))) (now (given .entry))) (now (now (line .entry))) (leftIn depth) l) y pos)) ⌝ }
+    requires ready { ⌜ Starts (lent (now (now table)) (now given)) (now (now line)) (now (now work)) spot x (posIn spot) ⌝ }
+    requires open { ⌜ (liveIn spot + leftIn spot ≤ 512) × (y < nodesIn (lent (now (now table)) (now given))) ⌝ }
+    ensures says { λ r. ⌜ Ends (lent (now (now (table .entry))) (now (given .entry))) (now (now (line .entry))) (now (now (work .entry))) (now (now (work .exit))) spot r (λ (l : List Note) (s : State). after (reading (lent (now (now (table .entry))) (now (given .entry))) (now (now (line .entry))) (leftIn spot) l x (posIn spot) s) (otherwise (reading (lent (now (now (table .entry))) (now (given .entry))) (now (now (line .entry))) (leftIn spot) l) y (posIn spot))) ⌝ }
     ensures lent { λ _. ⌜ (now (work .exit)) .name ≡ (now (work .entry)) .name ⌝ }
 {
-    let a = visit(given, table, line, work, depth, x, pos);
+    let a = visit(given, table, line, work, spot, x);
     let end = end_of(a);
     if end != FAILED {
         return a;
     }
-    visit(given, table, line, work, depth, y, pos)
+    visit(given, table, line, work, spot, y)
 }
 
 fn visit_not(
@@ -284,22 +316,21 @@ fn visit_not(
     table: &&[u8],
     line: &&[u8],
     work: &mut &mut [u32],
-    depth: u32,
+    spot: u64,
     x: u32,
-    pos: u32,
 ) -> u64
-    requires ready { ⌜ Starts (lent (now (now table)) (now given)) (now (now line)) (now (now work)) depth x pos ⌝ }
-    requires open { ⌜ liveIn depth + leftIn depth ≤ 512 ⌝ }
-    ensures says { λ r. ⌜ Ends (lent (now (now (table .entry))) (now (given .entry))) (now (now (line .entry))) (now (now (work .entry))) (now (now (work .exit))) depth r (λ (l : List Note) (s : State). after (reading (lent (now (now (table .entry))) (now (given .entry))) (now (now (line .entry))) (leftIn depth) l x pos s) (denied pos)) ⌝ }
+    requires ready { ⌜ Starts (lent (now (now table)) (now given)) (now (now line)) (now (now work)) spot x (posIn spot) ⌝ }
+    requires open { ⌜ liveIn spot + leftIn spot ≤ 512 ⌝ }
+    ensures says { λ r. ⌜ Ends (lent (now (now (table .entry))) (now (given .entry))) (now (now (line .entry))) (now (now (work .entry))) (now (now (work .exit))) spot r (λ (l : List Note) (s : State). after (reading (lent (now (now (table .entry))) (now (given .entry))) (now (now (line .entry))) (leftIn spot) l x (posIn spot) s) (denied (posIn spot))) ⌝ }
     ensures lent { λ _. ⌜ (now (work .exit)) .name ≡ (now (work .entry)) .name ⌝ }
 {
-    let a = visit(given, table, line, work, depth, x, pos);
+    let a = visit(given, table, line, work, spot, x);
     let end = end_of(a);
     if end == STOPPED {
         return a;
     }
     if end == FAILED {
-        return answer(pos, 0);
+        return answer(pos_of(spot), 0);
     }
     answer(FAILED, 0)
 }
@@ -310,17 +341,17 @@ fn visit_repetition(
     table: &&[u8],
     line: &&[u8],
     work: &mut &mut [u32],
-    depth: u32,
+    spot: u64,
     node: u32,
     x: u32,
-    pos: u32,
 ) -> u64
-    requires ready { ⌜ Starts (lent (now (now table)) (now given)) (now (now line)) (now (now work)) depth x pos ⌝ }
-    requires open { ⌜ (liveIn depth + leftIn depth ≤ 512) × (node < nodesIn (lent (now (now table)) (now given))) ⌝ }
-    ensures says { λ r. ⌜ Ends (lent (now (now (table .entry))) (now (given .entry))) (now (now (line .entry))) (now (now (work .entry))) (now (now (work .exit))) depth r (λ (l : List Note) (s : State). after (reading (lent (now (now (table .entry))) (now (given .entry))) (now (now (line .entry))) (leftIn depth) l x pos s) (repeated (reading (lent (now (now (table .entry))) (now (given .entry))) (now (now (line .entry))) (leftIn depth) l) node pos)) ⌝ }
+    requires ready { ⌜ Starts (lent (now (now table)) (now given)) (now (now line)) (now (now work)) spot x (posIn spot) ⌝ }
+    requires open { ⌜ (liveIn spot + leftIn spot ≤ 512) × (node < nodesIn (lent (now (now table)) (now given))) ⌝ }
+    ensures says { λ r. ⌜ Ends (lent (now (now (table .entry))) (now (given .entry))) (now (now (line .entry))) (now (now (work .entry))) (now (now (work .exit))) spot r (λ (l : List Note) (s : State). after (reading (lent (now (now (table .entry))) (now (given .entry))) (now (now (line .entry))) (leftIn spot) l x (posIn spot) s) (repeated (reading (lent (now (now (table .entry))) (now (given .entry))) (now (now (line .entry))) (leftIn spot) l) node (posIn spot))) ⌝ }
     ensures lent { λ _. ⌜ (now (work .exit)) .name ≡ (now (work .entry)) .name ⌝ }
 {
-    let a = visit(given, table, line, work, depth, x, pos);
+    let pos = pos_of(spot);
+    let a = visit(given, table, line, work, spot, x);
     let end = end_of(a);
     if end == STOPPED {
         return a;
@@ -331,7 +362,7 @@ fn visit_repetition(
     if end == pos {
         return answer(pos, 0);
     }
-    let b = visit(given, table, line, work, depth, node, end);
+    let b = visit(given, table, line, work, moved(spot, end), node);
     let last = end_of(b);
     if STOPPED <= last {
         return b;
@@ -345,17 +376,18 @@ fn use_free(
     table: &&[u8],
     line: &&[u8],
     work: &mut &mut [u32],
-    depth: u32,
+    spot: u64,
     rule: u32,
-    pos: u32,
 ) -> u64
-    requires ready { ⌜ Starts (lent (now (now table)) (now given)) (now (now line)) (now (now work)) depth (rootIn (lent (now (now table)) (now given)) rule) pos ⌝ }
-    requires open { ⌜ (liveIn depth + leftIn depth ≤ 512) × ((rule < 64) × (rule < rulesIn (lent (now (now table)) (now given)))) ⌝ }
-    ensures says { λ r. ⌜ Ends (lent (now (now (table .entry))) (now (given .entry))) (now (now (line .entry))) (now (now (work .entry))) (now (now (work .exit))) depth r (λ (l : List Note) (s : State). after (reading (lent (now (now (table .entry))) (now (given .entry))) (now (now (line .entry))) (leftIn depth) l (rootIn (lent (now (now (table .entry))) (now (given .entry))) rule) pos s) (wrapped rule pos)) ⌝ }
+    requires ready { ⌜ Starts (lent (now (now table)) (now given)) (now (now line)) (now (now work)) spot (rootIn (lent (now (now table)) (now given)) rule) (posIn spot) ⌝ }
+    requires open { ⌜ (liveIn spot + leftIn spot ≤ 512) × ((rule < 64) × (rule < rulesIn (lent (now (now table)) (now given)))) ⌝ }
+    requires keeps { ⌜ keepsIn (lent (now (now table)) (now given)) ≡ true ⌝ }
+    ensures says { λ r. ⌜ Ends (lent (now (now (table .entry))) (now (given .entry))) (now (now (line .entry))) (now (now (work .entry))) (now (now (work .exit))) spot r (λ (l : List Note) (s : State). after (reading (lent (now (now (table .entry))) (now (given .entry))) (now (now (line .entry))) (leftIn spot) l (rootIn (lent (now (now (table .entry))) (now (given .entry))) rule) (posIn spot) s) (wrapped rule (posIn spot))) ⌝ }
     ensures lent { λ _. ⌜ (now (work .exit)) .name ≡ (now (work .entry)) .name ⌝ }
 {
+    let pos = pos_of(spot);
     let root = root_of(*table, rule);
-    let a = visit(given, table, line, work, depth, root, pos);
+    let a = visit_free(given, table, line, work, spot, root);
     let end = end_of(a);
     if STOPPED <= end {
         return a;
@@ -370,21 +402,21 @@ fn use_live(
     table: &&[u8],
     line: &&[u8],
     work: &mut &mut [u32],
-    depth: u32,
+    spot: u64,
     rule: u32,
-    pos: u32,
 ) -> u64
-    requires ready { ⌜ Starts (lent (now (now table)) (now given)) (now (now line)) (now (now work)) depth (rootIn (lent (now (now table)) (now given)) rule) pos ⌝ }
-    requires open { ⌜ (liveIn depth + leftIn depth ≤ 512) × ((rule < 64) × (rule < rulesIn (lent (now (now table)) (now given)))) ⌝ }
-    requires fresh { ⌜ ((i : ℕ) → i < liveIn depth → getD (now (now work)) (i * 3) 0 ≢ keyOf rule pos) ⌝ }
-    ensures says { λ r. ⌜ Ends (lent (now (now (table .entry))) (now (given .entry))) (now (now (line .entry))) (now (now (work .entry))) (now (now (work .exit))) depth r (λ (l : List Note) (s : State). grows (lent (now (now (table .entry))) (now (given .entry))) (now (now (line .entry))) (leftIn depth) l rule pos s) ⌝ }
+    requires ready { ⌜ Starts (lent (now (now table)) (now given)) (now (now line)) (now (now work)) spot (rootIn (lent (now (now table)) (now given)) rule) (posIn spot) ⌝ }
+    requires open { ⌜ (liveIn spot + leftIn spot ≤ 512) × ((rule < 64) × (rule < rulesIn (lent (now (now table)) (now given)))) ⌝ }
+    requires fresh { ⌜ ((i : ℕ) → i < liveIn spot → getD (now (now work)) (i * 3) 0 ≢ keyOf rule (posIn spot)) ⌝ }
+    ensures says { λ r. ⌜ Ends (lent (now (now (table .entry))) (now (given .entry))) (now (now (line .entry))) (now (now (work .entry))) (now (now (work .exit))) spot r (λ (l : List Note) (s : State). grows (lent (now (now (table .entry))) (now (given .entry))) (now (now (line .entry))) (leftIn spot) l rule (posIn spot) s) ⌝ }
     ensures lent { λ _. ⌜ (now (work .exit)) .name ≡ (now (work .entry)) .name ⌝ }
 {
     let root = root_of(*table, rule);
+    let pos = pos_of(spot);
     let key = pos * 64 + rule;
-    let live = depth / 1024;
+    let live = live_of(spot);
     put_use(*work, live, key, 0, 0);
-    let first = visit(given, table, line, work, depth + 1024, root, pos);
+    let first = visit(given, table, line, work, spot + 1024, root);
     let reached = end_of(first);
     if STOPPED <= reached {
         return first;
@@ -393,7 +425,7 @@ fn use_live(
     let mut held = planted(*work, rule, pos, reached, list_of(first));
     let last = loop {
         put_use(*work, live, key, end, held);
-        let next = visit(given, table, line, work, depth + 1024, root, pos);
+        let next = visit(given, table, line, work, spot + 1024, root);
         let reached = end_of(next);
         if reached == STOPPED {
             break next;
@@ -410,25 +442,22 @@ fn use_live(
     last
 }
 
-// A use of a rule at a position.
+// A use of a rule where nothing is kept: what is held if it is live, else it becomes live.
 fn use_rule(
     given: &[u32; 3],
     table: &&[u8],
     line: &&[u8],
     work: &mut &mut [u32],
-    depth: u32,
+    spot: u64,
     rule: u32,
-    pos: u32,
 ) -> u64
-    requires ready { ⌜ Starts (lent (now (now table)) (now given)) (now (now line)) (now (now work)) depth (rootIn (lent (now (now table)) (now given)) rule) pos ⌝ }
-    requires open { ⌜ (liveIn depth + leftIn depth ≤ 512) × (rule < rulesIn (lent (now (now table)) (now given))) ⌝ }
-    ensures says { λ r. ⌜ Ends (lent (now (now (table .entry))) (now (given .entry))) (now (now (line .entry))) (now (now (work .entry))) (now (now (work .exit))) depth r (λ (l : List Note) (s : State). uses (lent (now (now (table .entry))) (now (given .entry))) (now (now (line .entry))) (leftIn depth) l rule pos s) ⌝ }
+    requires ready { ⌜ Starts (lent (now (now table)) (now given)) (now (now line)) (now (now work)) spot (rootIn (lent (now (now table)) (now given)) rule) (posIn spot) ⌝ }
+    requires open { ⌜ (liveIn spot + leftIn spot ≤ 512) × (rule < rulesIn (lent (now (now table)) (now given))) ⌝ }
+    requires plain { ⌜ keepsIn (lent (now (now table)) (now given)) ≡ false ⌝ }
+    ensures says { λ r. ⌜ Ends (lent (now (now (table .entry))) (now (given .entry))) (now (now (line .entry))) (now (now (work .entry))) (now (now (work .exit))) spot r (λ (l : List Note) (s : State). uses (lent (now (now (table .entry))) (now (given .entry))) (now (now (line .entry))) (leftIn spot) l rule (posIn spot) s) ⌝ }
     ensures lent { λ _. ⌜ (now (work .exit)) .name ≡ (now (work .entry)) .name ⌝ }
 {
-    if given[1] != 0 {
-        return use_free(given, table, line, work, depth, rule, pos);
-    }
-    let found = find_use(work, depth / 1024, pos * 64 + rule);
+    let found = find_use(work, live_of(spot), pos_of(spot) * 64 + rule);
     if found != 0 {
         let entry = (found - 1) as usize * 3;
         let list = work[entry + 2];
@@ -438,148 +467,152 @@ fn use_rule(
         let end = work[entry + 1];
         return answer(end, list);
     }
-    use_live(given, table, line, work, depth, rule, pos)
+    use_live(given, table, line, work, spot, rule)
 }
 
-// One node's application: a decision over the kind, 0 to 6 and all above.
+// One node's application: a decision over the kind, 0 to 6 and all above. A rule comes here only where answers are kept.
 fn apply(
     given: &[u32; 3],
     table: &&[u8],
     line: &&[u8],
     work: &mut &mut [u32],
-    depth: u32,
+    spot: u64,
     node: u32,
-    pos: u32,
 ) -> u64
-    requires ready { ⌜ Starts (lent (now (now table)) (now given)) (now (now line)) (now (now work)) depth node pos ⌝ }
-    requires open { ⌜ liveIn depth + leftIn depth ≤ 512 ⌝ }
-    ensures says { λ r. ⌜ Ends (lent (now (now (table .entry))) (now (given .entry))) (now (now (line .entry))) (now (now (work .entry))) (now (now (work .exit))) depth r (λ (l : List Note) (s : State). applies (lent (now (now (table .entry))) (now (given .entry))) (now (now (line .entry))) (leftIn depth) l node pos s) ⌝ }
+    requires ready { ⌜ Starts (lent (now (now table)) (now given)) (now (now line)) (now (now work)) spot node (posIn spot) ⌝ }
+    requires open { ⌜ liveIn spot + leftIn spot ≤ 512 ⌝ }
+    requires kept { ⌜ (kindIn (lent (now (now table)) (now given)) node ≡ 2 → keepsIn (lent (now (now table)) (now given)) ≡ true) ⌝ }
+    ensures says { λ r. ⌜ Ends (lent (now (now (table .entry))) (now (given .entry))) (now (now (line .entry))) (now (now (work .entry))) (now (now (work .exit))) spot r (λ (l : List Note) (s : State). applies (lent (now (now (table .entry))) (now (given .entry))) (now (now (line .entry))) (leftIn spot) l node (posIn spot) s) ⌝ }
     ensures lent { λ _. ⌜ (now (work .exit)) .name ≡ (now (work .entry)) .name ⌝ }
 {
     match kind_of(given, *table, node) {
-        0 => answer(pos, 0),
+        0 => answer(pos_of(spot), 0),
         1 => answer(
             range_end(
                 *line,
                 a_of(given, *table, node),
                 b_of(given, *table, node),
-                pos,
+                pos_of(spot),
             ),
             0,
         ),
-        2 => use_rule(
-            given,
-            table,
-            line,
-            work,
-            depth,
-            a_of(given, *table, node),
-            pos,
-        ),
+        2 => use_free(given, table, line, work, spot, a_of(given, *table, node)),
         3 => visit_sequence(
             given,
             table,
             line,
             work,
-            depth,
+            spot,
             a_of(given, *table, node),
             b_of(given, *table, node),
-            pos,
         ),
         4 => visit_choice(
             given,
             table,
             line,
             work,
-            depth,
+            spot,
             a_of(given, *table, node),
             b_of(given, *table, node),
-            pos,
         ),
-        5 => visit_not(
-            given,
-            table,
-            line,
-            work,
-            depth,
-            a_of(given, *table, node),
-            pos,
-        ),
+        5 => visit_not(given, table, line, work, spot, a_of(given, *table, node)),
         6 => visit_repetition(
             given,
             table,
             line,
             work,
-            depth,
+            spot,
             node,
             a_of(given, *table, node),
-            pos,
         ),
-        _ => answer(pos, 0),
+        _ => answer(pos_of(spot), 0),
     }
 }
 
-// A visit that is counted and open: the answer that is kept, or else the node is applied and its answer kept.
+// An open visit where nothing is kept: a range is answered at once, and so is a rule whose use is live.
 fn visit_open(
     given: &[u32; 3],
     table: &&[u8],
     line: &&[u8],
     work: &mut &mut [u32],
-    depth: u32,
+    spot: u64,
     node: u32,
-    pos: u32,
 ) -> u64
-    requires ready { ⌜ Starts (lent (now (now table)) (now given)) (now (now line)) (now (now work)) depth node pos ⌝ }
-    requires open { ⌜ liveIn depth + leftIn depth ≤ 512 ⌝ }
-    ensures says { λ r. ⌜ Ends (lent (now (now (table .entry))) (now (given .entry))) (now (now (line .entry))) (now (now (work .entry))) (now (now (work .exit))) depth r (λ (l : List Note) (s : State). opens (lent (now (now (table .entry))) (now (given .entry))) (now (now (line .entry))) (leftIn depth) l node pos s) ⌝ }
+    requires ready { ⌜ Starts (lent (now (now table)) (now given)) (now (now line)) (now (now work)) spot node (posIn spot) ⌝ }
+    requires open { ⌜ (liveIn spot + leftIn spot ≤ 512) × (keepsIn (lent (now (now table)) (now given)) ≡ false) ⌝ }
+    ensures says { λ r. ⌜ Ends (lent (now (now (table .entry))) (now (given .entry))) (now (now (line .entry))) (now (now (work .entry))) (now (now (work .exit))) spot r (λ (l : List Note) (s : State). applies (lent (now (now (table .entry))) (now (given .entry))) (now (now (line .entry))) (leftIn spot) l node (posIn spot) s) ⌝ }
     ensures lent { λ _. ⌜ (now (work .exit)) .name ≡ (now (work .entry)) .name ⌝ }
 {
+    let kind = kind_of(given, *table, node);
+    if kind == 1 {
+        let end = range_end(
+            *line,
+            a_of(given, *table, node),
+            b_of(given, *table, node),
+            pos_of(spot),
+        );
+        return answer(end, 0);
+    }
+    if kind == 2 {
+        return use_rule(given, table, line, work, spot, a_of(given, *table, node));
+    }
+    apply(given, table, line, work, spot, node)
+}
+
+// A visit where answers are kept: the one that is, or else the node is applied and its answer kept.
+fn visit_free(
+    given: &[u32; 3],
+    table: &&[u8],
+    line: &&[u8],
+    work: &mut &mut [u32],
+    spot: u64,
+    node: u32,
+) -> u64
+    requires ready { ⌜ Starts (lent (now (now table)) (now given)) (now (now line)) (now (now work)) spot node (posIn spot) ⌝ }
+    requires keeps { ⌜ keepsIn (lent (now (now table)) (now given)) ≡ true ⌝ }
+    ensures says { λ r. ⌜ EndsVisit (lent (now (now (table .entry))) (now (given .entry))) (now (now (line .entry))) (now (now (work .entry))) (now (now (work .exit))) spot r (λ (l : List Note) (s : State). reading (lent (now (now (table .entry))) (now (given .entry))) (now (now (line .entry))) (leftIn spot) l node (posIn spot) s) ⌝ }
+    ensures lent { λ _. ⌜ (now (work .exit)) .name ≡ (now (work .entry)) .name ⌝ }
+{
+    let refused = enter(given, work, spot);
+    if refused != 0 {
+        return answer(STOPPED, refused * 4096 + pos_of(spot));
+    }
+    let pos = pos_of(spot);
     let word = kept_word(given, *line, work, node, pos);
     if word == 1 {
         return answer(FAILED, 0);
     }
     if 1 < word {
-        let at = kept_at(given, *line, node, pos);
-        let list = work[at + 1];
+        let place = kept_at(given, *line, node, pos);
+        let list = work[place + 1];
         return answer(word - 2, list);
     }
-    let done = apply(given, table, line, work, depth, node, pos);
+    let done = apply(given, table, line, work, spot - 1, node);
     keep(given, *line, *work, node, pos, end_of(done), list_of(done));
     done
 }
 
-// A visit: EFFORT, then DEEP, then the node. Ranges are answered here where nothing is kept.
+// A visit. Where nothing is kept, all that is left to do once it is open is done by what it calls: it keeps no place on the stack.
 fn visit(
     given: &[u32; 3],
     table: &&[u8],
     line: &&[u8],
     work: &mut &mut [u32],
-    depth: u32,
+    spot: u64,
     node: u32,
-    pos: u32,
 ) -> u64
-    requires ready { ⌜ Starts (lent (now (now table)) (now given)) (now (now line)) (now (now work)) depth node pos ⌝ }
-    ensures says { λ r. ⌜ EndsVisit (lent (now (now (table .entry))) (now (given .entry))) (now (now (line .entry))) (now (now (work .entry))) (now (now (work .exit))) depth r (λ (l : List Note) (s : State). reading (lent (now (now (table .entry))) (now (given .entry))) (now (now (line .entry))) (leftIn depth) l node pos s) ⌝ }
+    requires ready { ⌜ Starts (lent (now (now table)) (now given)) (now (now line)) (now (now work)) spot node (posIn spot) ⌝ }
+    ensures says { λ r. ⌜ EndsVisit (lent (now (now (table .entry))) (now (given .entry))) (now (now (line .entry))) (now (now (work .entry))) (now (now (work .exit))) spot r (λ (l : List Note) (s : State). reading (lent (now (now (table .entry))) (now (given .entry))) (now (now (line .entry))) (leftIn spot) l node (posIn spot) s) ⌝ }
     ensures lent { λ _. ⌜ (now (work .exit)) .name ≡ (now (work .entry)) .name ⌝ }
 {
-    let made = work[2043];
-    if given[0] <= made {
-        return answer(STOPPED, 11 * 4096 + pos);
+    if given[1] != 0 {
+        return visit_free(given, table, line, work, spot, node);
     }
-    if depth % 1024 == 0 {
-        return answer(STOPPED, 12 * 4096 + pos);
+    let refused = enter(given, work, spot);
+    if refused != 0 {
+        return answer(STOPPED, refused * 4096 + pos_of(spot));
     }
-    work[2043] = made + 1;
-    if plain_range(given, *table, node) {
-        let end = range_end(
-            *line,
-            a_of(given, *table, node),
-            b_of(given, *table, node),
-            pos,
-        );
-        return answer(end, 0);
-    }
-    visit_open(given, table, line, work, depth - 1, node, pos)
+    visit_open(given, table, line, work, spot - 1, node)
 }
 
 // The use of rule 0 at position 0, which is not itself a visit.
@@ -590,9 +623,9 @@ fn first_use(given: &[u32; 3], table: &&[u8], line: &&[u8], work: &mut &mut [u32
     ensures lent { λ _. ⌜ (now (work .exit)) .name ≡ (now (work .entry)) .name ⌝ }
 {
     if given[1] != 0 {
-        return use_free(given, table, line, work, 512, 0, 0);
+        return use_free(given, table, line, work, 512, 0);
     }
-    use_live(given, table, line, work, 512, 0, 0)
+    use_live(given, table, line, work, 512, 0)
 }
 
 // The whole reading: what it answers, and the working numbers that it was lent. (They are moved once more before they are returned: `all` itself

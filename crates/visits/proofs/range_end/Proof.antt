@@ -1,7 +1,7 @@
 use borrow.Author.Needs.{needs}
 use Rattle.visits.proofs.range_end.Statement.{statement}
 use Rattle.visits.proofs.range_end.Tie as tie
-use Rattle.visits.proofs.Enter.{range-hit, range-low, range-high, range-past}
+use Rattle.visits.proofs.Entering.{range-hit, range-low, range-high, range-past}
 
 shared-slice-read-wide : tie.Need-shared-slice-read-wide
 shared-slice-read-wide c = search needs
