@@ -86,13 +86,13 @@ module _ (given : Given) (line w : List ℕ) (spot node pos : ℕ) (ready : Star
       let c = cells-open given line w spot node pos ready more some r e in
       record { came = entered (came-open given line w spot node pos ready more some r e); cells = omega arith; fewer = λ h. omega arith }
 
-  -- Where nothing is kept, an open visit is the node's application.
-  pub opened-plain : keepsIn given ≡ false → (w′ : List ℕ) (r : ℕ) → Ends given line counted w′ (spot - 1) r (λ l s. applies given line (leftIn (spot - 1)) l node pos s)
-      → EndsVisit given line w w′ spot r (λ l s. reading given line (leftIn spot) l node pos s)
-  opened-plain plain w′ r e = opened w′ r (record {
-    came = visited-plain given line (ready .fit) (reading given line (leftIn (spot - 1))) node pos (ready .node-in) (ready .pos-in) plain (e .came);
-    cells = e .cells;
-  })
+-- Where nothing is kept, an open visit is the node's application.
+pub plain-opens : (given : Given) (line w : List ℕ) (spot node pos : ℕ) → Starts given line w spot node pos → keepsIn given ≡ false → (w′ : List ℕ) (r : ℕ)
+    → Ends given line w w′ spot r (λ l s. applies given line (leftIn spot) l node pos s) → Ends given line w w′ spot r (λ l s. opens given line (leftIn spot) l node pos s)
+plain-opens given line w spot node pos ready plain w′ r e = record {
+  came = visited-plain given line (ready .fit) (reading given line (leftIn spot)) node pos (ready .node-in) (ready .pos-in) plain (e .came);
+  cells = e .cells;
+}
 
 -- A visit that is entered: refused, or counted.
 module _ (given : Given) (line w : List ℕ) (spot node pos : ℕ) (ready : Starts given line w spot node pos) {w₁ : List ℕ} {code : ℕ} where

@@ -10,7 +10,7 @@
 // slices, so that a call costs no copy of them; so each function says too that the working numbers it was lent are the ones that it gives back.
 ghost use mathlib.Core.Path.{_≡_};
 ghost use mathlib.Core.Bool.{true, false};
-ghost use mathlib.Core.Logic.{_≢_};
+ghost use mathlib.Core.Logic.{_≢_, _⊎_};
 ghost use mathlib.Core.List.{List, [], _∷_};
 ghost use Prim.Native.Nat.{ℕ, _+_, _*_, _/_, _%_, _<_, _≤_};
 ghost use lib.ListN.{length, getD};
@@ -381,13 +381,12 @@ fn use_free(
 ) -> u64
     requires ready { ⌜ Starts (lent (now (now table)) (now given)) (now (now line)) (now (now work)) spot (rootIn (lent (now (now table)) (now given)) rule) (posIn spot) ⌝ }
     requires open { ⌜ (liveIn spot + leftIn spot ≤ 512) × ((rule < 64) × (rule < rulesIn (lent (now (now table)) (now given)))) ⌝ }
-    requires keeps { ⌜ keepsIn (lent (now (now table)) (now given)) ≡ true ⌝ }
     ensures says { λ r. ⌜ Ends (lent (now (now (table .entry))) (now (given .entry))) (now (now (line .entry))) (now (now (work .entry))) (now (now (work .exit))) spot r (λ (l : List Note) (s : State). after (reading (lent (now (now (table .entry))) (now (given .entry))) (now (now (line .entry))) (leftIn spot) l (rootIn (lent (now (now (table .entry))) (now (given .entry))) rule) (posIn spot) s) (wrapped rule (posIn spot))) ⌝ }
     ensures lent { λ _. ⌜ (now (work .exit)) .name ≡ (now (work .entry)) .name ⌝ }
 {
     let pos = pos_of(spot);
     let root = root_of(*table, rule);
-    let a = visit_free(given, table, line, work, spot, root);
+    let a = visit(given, table, line, work, spot, root);
     let end = end_of(a);
     if STOPPED <= end {
         return a;
@@ -470,7 +469,30 @@ fn use_rule(
     use_live(given, table, line, work, spot, rule)
 }
 
-// One node's application: a decision over the kind, 0 to 6 and all above. A rule comes here only where answers are kept.
+// A sequence or a choice: its two children.
+fn visit_pair(
+    given: &[u32; 3],
+    table: &&[u8],
+    line: &&[u8],
+    work: &mut &mut [u32],
+    spot: u64,
+    node: u32,
+) -> u64
+    requires ready { ⌜ Starts (lent (now (now table)) (now given)) (now (now line)) (now (now work)) spot node (posIn spot) ⌝ }
+    requires open { ⌜ (liveIn spot + leftIn spot ≤ 512) × ((kindIn (lent (now (now table)) (now given)) node ≡ 3) ⊎ (kindIn (lent (now (now table)) (now given)) node ≡ 4)) ⌝ }
+    ensures says { λ r. ⌜ Ends (lent (now (now (table .entry))) (now (given .entry))) (now (now (line .entry))) (now (now (work .entry))) (now (now (work .exit))) spot r (λ (l : List Note) (s : State). applies (lent (now (now (table .entry))) (now (given .entry))) (now (now (line .entry))) (leftIn spot) l node (posIn spot) s) ⌝ }
+    ensures lent { λ _. ⌜ (now (work .exit)) .name ≡ (now (work .entry)) .name ⌝ }
+{
+    let x = a_of(given, *table, node);
+    let y = b_of(given, *table, node);
+    if kind_of(given, *table, node) == 3 {
+        return visit_sequence(given, table, line, work, spot, x, y);
+    }
+    visit_choice(given, table, line, work, spot, x, y)
+}
+
+// One node's application: a decision over the kind, 0 to 6 and all above; then its answer is kept, where answers are. A rule comes here only
+// where they are.
 fn apply(
     given: &[u32; 3],
     table: &&[u8],
@@ -481,11 +503,11 @@ fn apply(
 ) -> u64
     requires ready { ⌜ Starts (lent (now (now table)) (now given)) (now (now line)) (now (now work)) spot node (posIn spot) ⌝ }
     requires open { ⌜ liveIn spot + leftIn spot ≤ 512 ⌝ }
-    requires kept { ⌜ (kindIn (lent (now (now table)) (now given)) node ≡ 2 → keepsIn (lent (now (now table)) (now given)) ≡ true) ⌝ }
-    ensures says { λ r. ⌜ Ends (lent (now (now (table .entry))) (now (given .entry))) (now (now (line .entry))) (now (now (work .entry))) (now (now (work .exit))) spot r (λ (l : List Note) (s : State). applies (lent (now (now (table .entry))) (now (given .entry))) (now (now (line .entry))) (leftIn spot) l node (posIn spot) s) ⌝ }
+    requires kept { ⌜ (kindIn (lent (now (now table)) (now given)) node ≡ 2 → keepsIn (lent (now (now table)) (now given)) ≡ true) × (keepsIn (lent (now (now table)) (now given)) ≡ true → getD (now (now work)) (placeIn (lent (now (now table)) (now given)) (now (now line)) node (posIn spot)) 0 ≡ 0) ⌝ }
+    ensures says { λ r. ⌜ Ends (lent (now (now (table .entry))) (now (given .entry))) (now (now (line .entry))) (now (now (work .entry))) (now (now (work .exit))) spot r (λ (l : List Note) (s : State). opens (lent (now (now (table .entry))) (now (given .entry))) (now (now (line .entry))) (leftIn spot) l node (posIn spot) s) ⌝ }
     ensures lent { λ _. ⌜ (now (work .exit)) .name ≡ (now (work .entry)) .name ⌝ }
 {
-    match kind_of(given, *table, node) {
+    let done = match kind_of(given, *table, node) {
         0 => answer(pos_of(spot), 0),
         1 => answer(
             range_end(
@@ -497,24 +519,8 @@ fn apply(
             0,
         ),
         2 => use_free(given, table, line, work, spot, a_of(given, *table, node)),
-        3 => visit_sequence(
-            given,
-            table,
-            line,
-            work,
-            spot,
-            a_of(given, *table, node),
-            b_of(given, *table, node),
-        ),
-        4 => visit_choice(
-            given,
-            table,
-            line,
-            work,
-            spot,
-            a_of(given, *table, node),
-            b_of(given, *table, node),
-        ),
+        3 => visit_pair(given, table, line, work, spot, node),
+        4 => visit_pair(given, table, line, work, spot, node),
         5 => visit_not(given, table, line, work, spot, a_of(given, *table, node)),
         6 => visit_repetition(
             given,
@@ -526,10 +532,23 @@ fn apply(
             a_of(given, *table, node),
         ),
         _ => answer(pos_of(spot), 0),
+    };
+    if given[1] == 0 {
+        return done;
     }
+    keep(
+        given,
+        *line,
+        *work,
+        node,
+        pos_of(spot),
+        end_of(done),
+        list_of(done),
+    );
+    done
 }
 
-// An open visit where nothing is kept: a range is answered at once, and so is a rule whose use is live.
+// An open visit where nothing is kept: it has nothing to do after what it calls, so it ends in a jump to it.
 fn visit_open(
     given: &[u32; 3],
     table: &&[u8],
@@ -540,7 +559,7 @@ fn visit_open(
 ) -> u64
     requires ready { ⌜ Starts (lent (now (now table)) (now given)) (now (now line)) (now (now work)) spot node (posIn spot) ⌝ }
     requires open { ⌜ (liveIn spot + leftIn spot ≤ 512) × (keepsIn (lent (now (now table)) (now given)) ≡ false) ⌝ }
-    ensures says { λ r. ⌜ Ends (lent (now (now (table .entry))) (now (given .entry))) (now (now (line .entry))) (now (now (work .entry))) (now (now (work .exit))) spot r (λ (l : List Note) (s : State). applies (lent (now (now (table .entry))) (now (given .entry))) (now (now (line .entry))) (leftIn spot) l node (posIn spot) s) ⌝ }
+    ensures says { λ r. ⌜ Ends (lent (now (now (table .entry))) (now (given .entry))) (now (now (line .entry))) (now (now (work .entry))) (now (now (work .exit))) spot r (λ (l : List Note) (s : State). opens (lent (now (now (table .entry))) (now (given .entry))) (now (now (line .entry))) (leftIn spot) l node (posIn spot) s) ⌝ }
     ensures lent { λ _. ⌜ (now (work .exit)) .name ≡ (now (work .entry)) .name ⌝ }
 {
     let kind = kind_of(given, *table, node);
@@ -556,43 +575,16 @@ fn visit_open(
     if kind == 2 {
         return use_rule(given, table, line, work, spot, a_of(given, *table, node));
     }
+    if kind == 3 {
+        return visit_pair(given, table, line, work, spot, node);
+    }
+    if kind == 4 {
+        return visit_pair(given, table, line, work, spot, node);
+    }
     apply(given, table, line, work, spot, node)
 }
 
-// A visit where answers are kept: the one that is, or else the node is applied and its answer kept.
-fn visit_free(
-    given: &[u32; 3],
-    table: &&[u8],
-    line: &&[u8],
-    work: &mut &mut [u32],
-    spot: u64,
-    node: u32,
-) -> u64
-    requires ready { ⌜ Starts (lent (now (now table)) (now given)) (now (now line)) (now (now work)) spot node (posIn spot) ⌝ }
-    requires keeps { ⌜ keepsIn (lent (now (now table)) (now given)) ≡ true ⌝ }
-    ensures says { λ r. ⌜ EndsVisit (lent (now (now (table .entry))) (now (given .entry))) (now (now (line .entry))) (now (now (work .entry))) (now (now (work .exit))) spot r (λ (l : List Note) (s : State). reading (lent (now (now (table .entry))) (now (given .entry))) (now (now (line .entry))) (leftIn spot) l node (posIn spot) s) ⌝ }
-    ensures lent { λ _. ⌜ (now (work .exit)) .name ≡ (now (work .entry)) .name ⌝ }
-{
-    let refused = enter(given, work, spot);
-    if refused != 0 {
-        return answer(STOPPED, refused * 4096 + pos_of(spot));
-    }
-    let pos = pos_of(spot);
-    let word = kept_word(given, *line, work, node, pos);
-    if word == 1 {
-        return answer(FAILED, 0);
-    }
-    if 1 < word {
-        let place = kept_at(given, *line, node, pos);
-        let list = work[place + 1];
-        return answer(word - 2, list);
-    }
-    let done = apply(given, table, line, work, spot - 1, node);
-    keep(given, *line, *work, node, pos, end_of(done), list_of(done));
-    done
-}
-
-// A visit. Where nothing is kept, all that is left to do once it is open is done by what it calls: it keeps no place on the stack.
+// A visit: the answer that is kept, or else the node is applied. It keeps no place on the stack, since it ends in a jump to what it calls.
 fn visit(
     given: &[u32; 3],
     table: &&[u8],
@@ -605,14 +597,24 @@ fn visit(
     ensures says { λ r. ⌜ EndsVisit (lent (now (now (table .entry))) (now (given .entry))) (now (now (line .entry))) (now (now (work .entry))) (now (now (work .exit))) spot r (λ (l : List Note) (s : State). reading (lent (now (now (table .entry))) (now (given .entry))) (now (now (line .entry))) (leftIn spot) l node (posIn spot) s) ⌝ }
     ensures lent { λ _. ⌜ (now (work .exit)) .name ≡ (now (work .entry)) .name ⌝ }
 {
-    if given[1] != 0 {
-        return visit_free(given, table, line, work, spot, node);
-    }
     let refused = enter(given, work, spot);
     if refused != 0 {
         return answer(STOPPED, refused * 4096 + pos_of(spot));
     }
-    visit_open(given, table, line, work, spot - 1, node)
+    if given[1] == 0 {
+        return visit_open(given, table, line, work, spot - 1, node);
+    }
+    let pos = pos_of(spot);
+    let word = kept_word(given, *line, work, node, pos);
+    if word == 1 {
+        return answer(FAILED, 0);
+    }
+    if 1 < word {
+        let place = kept_at(given, *line, node, pos);
+        let list = work[place + 1];
+        return answer(word - 2, list);
+    }
+    apply(given, table, line, work, spot - 1, node)
 }
 
 // The use of rule 0 at position 0, which is not itself a visit.

@@ -9,7 +9,7 @@ element-copy-out-if1 : tie.Need-element-copy-out-if1
 element-copy-out-if1 c = search needs
 
 use-free-requires : tie.Need-use-free-requires
-use-free-requires c κs = let at-start = c .before .before .before in (at-start .pre .0, ((search needs, (search needs, at-start .pre .1)), keeps-yes _ (c .before .if1 .taken)))
+use-free-requires c κs = search needs
 
 returns : tie.Need-returns
 returns c =

@@ -3,37 +3,37 @@ use borrow.Fn.Kinds.{In}
 use borrow.Fn.PlainCycle.{Measures, is, falls, and}
 use Rattle.visits.proofs.apply.Reads as apply
 use Rattle.visits.proofs.apply.Kinds as apply-kinds
-use Rattle.visits.proofs.+apply+use_free+use_live+use_rule+visit+visit_choice+visit_free+visit_not+visit_open+visit_repetition+visit_sequence.Lts-apply as apply-lts
+use Rattle.visits.proofs.+apply+use_free+use_live+use_rule+visit+visit_choice+visit_not+visit_open+visit_pair+visit_repetition+visit_sequence.Lts-apply as apply-lts
 use Rattle.visits.proofs.use_free.Reads as use-free
 use Rattle.visits.proofs.use_free.Kinds as use-free-kinds
-use Rattle.visits.proofs.+apply+use_free+use_live+use_rule+visit+visit_choice+visit_free+visit_not+visit_open+visit_repetition+visit_sequence.Lts-use_free as use-free-lts
+use Rattle.visits.proofs.+apply+use_free+use_live+use_rule+visit+visit_choice+visit_not+visit_open+visit_pair+visit_repetition+visit_sequence.Lts-use_free as use-free-lts
 use Rattle.visits.proofs.use_live.Reads as use-live
 use Rattle.visits.proofs.use_live.Kinds as use-live-kinds
-use Rattle.visits.proofs.+apply+use_free+use_live+use_rule+visit+visit_choice+visit_free+visit_not+visit_open+visit_repetition+visit_sequence.Lts-use_live as use-live-lts
+use Rattle.visits.proofs.+apply+use_free+use_live+use_rule+visit+visit_choice+visit_not+visit_open+visit_pair+visit_repetition+visit_sequence.Lts-use_live as use-live-lts
 use Rattle.visits.proofs.use_rule.Reads as use-rule
 use Rattle.visits.proofs.use_rule.Kinds as use-rule-kinds
-use Rattle.visits.proofs.+apply+use_free+use_live+use_rule+visit+visit_choice+visit_free+visit_not+visit_open+visit_repetition+visit_sequence.Lts-use_rule as use-rule-lts
+use Rattle.visits.proofs.+apply+use_free+use_live+use_rule+visit+visit_choice+visit_not+visit_open+visit_pair+visit_repetition+visit_sequence.Lts-use_rule as use-rule-lts
 use Rattle.visits.proofs.visit.Reads as visit
 use Rattle.visits.proofs.visit.Kinds as visit-kinds
-use Rattle.visits.proofs.+apply+use_free+use_live+use_rule+visit+visit_choice+visit_free+visit_not+visit_open+visit_repetition+visit_sequence.Lts-visit as visit-lts
+use Rattle.visits.proofs.+apply+use_free+use_live+use_rule+visit+visit_choice+visit_not+visit_open+visit_pair+visit_repetition+visit_sequence.Lts-visit as visit-lts
 use Rattle.visits.proofs.visit_choice.Reads as visit-choice
 use Rattle.visits.proofs.visit_choice.Kinds as visit-choice-kinds
-use Rattle.visits.proofs.+apply+use_free+use_live+use_rule+visit+visit_choice+visit_free+visit_not+visit_open+visit_repetition+visit_sequence.Lts-visit_choice as visit-choice-lts
-use Rattle.visits.proofs.visit_free.Reads as visit-free
-use Rattle.visits.proofs.visit_free.Kinds as visit-free-kinds
-use Rattle.visits.proofs.+apply+use_free+use_live+use_rule+visit+visit_choice+visit_free+visit_not+visit_open+visit_repetition+visit_sequence.Lts-visit_free as visit-free-lts
+use Rattle.visits.proofs.+apply+use_free+use_live+use_rule+visit+visit_choice+visit_not+visit_open+visit_pair+visit_repetition+visit_sequence.Lts-visit_choice as visit-choice-lts
 use Rattle.visits.proofs.visit_not.Reads as visit-not
 use Rattle.visits.proofs.visit_not.Kinds as visit-not-kinds
-use Rattle.visits.proofs.+apply+use_free+use_live+use_rule+visit+visit_choice+visit_free+visit_not+visit_open+visit_repetition+visit_sequence.Lts-visit_not as visit-not-lts
+use Rattle.visits.proofs.+apply+use_free+use_live+use_rule+visit+visit_choice+visit_not+visit_open+visit_pair+visit_repetition+visit_sequence.Lts-visit_not as visit-not-lts
 use Rattle.visits.proofs.visit_open.Reads as visit-open
 use Rattle.visits.proofs.visit_open.Kinds as visit-open-kinds
-use Rattle.visits.proofs.+apply+use_free+use_live+use_rule+visit+visit_choice+visit_free+visit_not+visit_open+visit_repetition+visit_sequence.Lts-visit_open as visit-open-lts
+use Rattle.visits.proofs.+apply+use_free+use_live+use_rule+visit+visit_choice+visit_not+visit_open+visit_pair+visit_repetition+visit_sequence.Lts-visit_open as visit-open-lts
+use Rattle.visits.proofs.visit_pair.Reads as visit-pair
+use Rattle.visits.proofs.visit_pair.Kinds as visit-pair-kinds
+use Rattle.visits.proofs.+apply+use_free+use_live+use_rule+visit+visit_choice+visit_not+visit_open+visit_pair+visit_repetition+visit_sequence.Lts-visit_pair as visit-pair-lts
 use Rattle.visits.proofs.visit_repetition.Reads as visit-repetition
 use Rattle.visits.proofs.visit_repetition.Kinds as visit-repetition-kinds
-use Rattle.visits.proofs.+apply+use_free+use_live+use_rule+visit+visit_choice+visit_free+visit_not+visit_open+visit_repetition+visit_sequence.Lts-visit_repetition as visit-repetition-lts
+use Rattle.visits.proofs.+apply+use_free+use_live+use_rule+visit+visit_choice+visit_not+visit_open+visit_pair+visit_repetition+visit_sequence.Lts-visit_repetition as visit-repetition-lts
 use Rattle.visits.proofs.visit_sequence.Reads as visit-sequence
 use Rattle.visits.proofs.visit_sequence.Kinds as visit-sequence-kinds
-use Rattle.visits.proofs.+apply+use_free+use_live+use_rule+visit+visit_choice+visit_free+visit_not+visit_open+visit_repetition+visit_sequence.Lts-visit_sequence as visit-sequence-lts
+use Rattle.visits.proofs.+apply+use_free+use_live+use_rule+visit+visit_choice+visit_not+visit_open+visit_pair+visit_repetition+visit_sequence.Lts-visit_sequence as visit-sequence-lts
 use Rattle.visits.proofs.a_of.Reads as a-of-reads
 use Rattle.visits.proofs.answer.Reads as answer-reads
 use Rattle.visits.proofs.b_of.Reads as b-of-reads
@@ -53,67 +53,67 @@ use Rattle.visits.proofs.pos_of.Reads as pos-of-reads
 use Rattle.visits.proofs.put_use.Reads as put-use-reads
 use Rattle.visits.proofs.range_end.Reads as range-end-reads
 use Rattle.visits.proofs.root_of.Reads as root-of-reads
-use Rattle.visits.proofs.+apply+use_free+use_live+use_rule+visit+visit_choice+visit_free+visit_not+visit_open+visit_repetition+visit_sequence.{
+use Rattle.visits.proofs.+apply+use_free+use_live+use_rule+visit+visit_choice+visit_not+visit_open+visit_pair+visit_repetition+visit_sequence.{
   statement,
 }
-use Rattle.visits.proofs.+apply+use_free+use_live+use_rule+visit+visit_choice+visit_free+visit_not+visit_open+visit_repetition+visit_sequence.Tie.{
+use Rattle.visits.proofs.+apply+use_free+use_live+use_rule+visit+visit_choice+visit_not+visit_open+visit_pair+visit_repetition+visit_sequence.Tie.{
   close,
 }
 use Prim.Native.Nat.{_+_, _*_, _-_, _≤_}
 use borrow.Author.Needs.{needs}
 use native.Mathlib.Omega.{arith}
 use lib.ListN.{length, getD, set}
-use mathlib.Core.Logic.{_≢_, inl, inr}
+use mathlib.Core.Logic.{_≢_, inl, inr, ⊎-elim}
 use mathlib.Core.Path.{_≡_, refl, sym, ap, _∙_}
 use Rattle.meaning.specs.Grammar.{tree, no-trees}
 use Rattle.cells.specs.Cells.{treesAt}
 use Rattle.visits.specs.Given.{lent, rulesIn, leftIn, liveIn, posIn}
 use Rattle.visits.specs.Words.{topIn, madeIn, placeIn, keyOf, Added, Found}
-use Rattle.visits.specs.Says.{reading, endIn, listIn, Starts}
+use Rattle.visits.specs.Says.{reading, applies, endIn, listIn, Starts, Ends}
 use Rattle.visits.proofs.Steps.{came-at}
 use Rattle.visits.proofs.Nodes.{seq-first, choice-first, choice-second, not-stop, not-match, not-fail, rep-stop, rep-none, rep-empty, use-unmatched, use-tree}
 use Rattle.visits.proofs.Frame.{pair-in, pairs-few}
 use Rattle.visits.proofs.Living.{usePut, held-fail, held-match}
 use Rattle.visits.proofs.Ready.{ready-next, ready-at, root-is, root-in}
-use Rattle.visits.proofs.Depth.{left-less, live-less, pos-less, pos-more, space-open, starts-open, starts-live, ends-live, starts-moved, ends-moved}
-use Rattle.visits.proofs.ByKind.{apply-rule, apply-sequence, apply-choice, apply-not, apply-repetition, apply-empty, apply-above, apply-range, uses-free, uses-grows, rule-used, sequence-children, choice-children, not-child, repetition-child, keeps-yes, keeps-no, above-six}
+use Rattle.visits.proofs.Depth.{left-less, pos-less, pos-more, space-open, starts-open, starts-live, ends-live, starts-moved, ends-moved}
+use Rattle.visits.proofs.ByKind.{apply-rule, apply-sequence, apply-choice, apply-not, apply-repetition, apply-empty, apply-above, apply-range, uses-free, uses-grows, rule-used, sequence-children, choice-children, not-child, repetition-child, keeps-yes, keeps-no, not-both, above-six}
 use Rattle.sheet.proofs.Accepting.{well-formed}
 use Rattle.visits.proofs.Attempts.{GrowingIn, room-tree, first-attempt, first-ends, first-low, loop-begins, starts-next, next-attempt, next-stops, held-ends, next-low, loop-turns, loop-nearer}
 use Rattle.visits.proofs.Pairs.{matched, starts-second, sequence-second, sequence-joined, repetition-second, repetition-joined, join-ready}
-use Rattle.visits.proofs.Opening.{roomy, kept-failure, kept-match, open-applied, opened, opened-plain, refused, refused-small, entered-open}
+use Rattle.visits.proofs.Opening.{roomy, kept-failure, kept-match, open-applied, opened, plain-opens, refused, refused-small, entered-open}
 
 abbrev μ-apply : Measures 7 apply-kinds.ps ℕ
-μ-apply κs a = leftIn (a .1 .1 .1 .1 .0) * 6 + 4
+μ-apply κs a = leftIn (a .1 .1 .1 .1 .0) * 6 + 3
 
 abbrev μ-use-free : Measures 7 use-free-kinds.ps ℕ
-μ-use-free κs a = leftIn (a .1 .1 .1 .1 .0) * 6 + 2
+μ-use-free κs a = leftIn (a .1 .1 .1 .1 .0) * 6 + 1
 
 abbrev μ-use-live : Measures 7 use-live-kinds.ps ℕ
-μ-use-live κs a = leftIn (a .1 .1 .1 .1 .0) * 6 + 2
+μ-use-live κs a = leftIn (a .1 .1 .1 .1 .0) * 6 + 1
 
 abbrev μ-use-rule : Measures 7 use-rule-kinds.ps ℕ
-μ-use-rule κs a = leftIn (a .1 .1 .1 .1 .0) * 6 + 3
+μ-use-rule κs a = leftIn (a .1 .1 .1 .1 .0) * 6 + 2
 
 abbrev μ-visit : Measures 7 visit-kinds.ps ℕ
-μ-visit κs a = leftIn (a .1 .1 .1 .1 .0) * 6 + 1
+μ-visit κs a = leftIn (a .1 .1 .1 .1 .0) * 6 + 0
 
 abbrev μ-visit-choice : Measures 7 visit-choice-kinds.ps ℕ
-μ-visit-choice κs a = leftIn (a .1 .1 .1 .1 .0) * 6 + 2
-
-abbrev μ-visit-free : Measures 7 visit-free-kinds.ps ℕ
-μ-visit-free κs a = leftIn (a .1 .1 .1 .1 .0) * 6 + 0
+μ-visit-choice κs a = leftIn (a .1 .1 .1 .1 .0) * 6 + 1
 
 abbrev μ-visit-not : Measures 7 visit-not-kinds.ps ℕ
-μ-visit-not κs a = leftIn (a .1 .1 .1 .1 .0) * 6 + 2
+μ-visit-not κs a = leftIn (a .1 .1 .1 .1 .0) * 6 + 1
 
 abbrev μ-visit-open : Measures 7 visit-open-kinds.ps ℕ
-μ-visit-open κs a = leftIn (a .1 .1 .1 .1 .0) * 6 + 5
+μ-visit-open κs a = leftIn (a .1 .1 .1 .1 .0) * 6 + 4
+
+abbrev μ-visit-pair : Measures 7 visit-pair-kinds.ps ℕ
+μ-visit-pair κs a = leftIn (a .1 .1 .1 .1 .0) * 6 + 2
 
 abbrev μ-visit-repetition : Measures 7 visit-repetition-kinds.ps ℕ
-μ-visit-repetition κs a = leftIn (a .1 .1 .1 .1 .0) * 6 + 2
+μ-visit-repetition κs a = leftIn (a .1 .1 .1 .1 .0) * 6 + 1
 
 abbrev μ-visit-sequence : Measures 7 visit-sequence-kinds.ps ℕ
-μ-visit-sequence κs a = leftIn (a .1 .1 .1 .1 .0) * 6 + 2
+μ-visit-sequence κs a = leftIn (a .1 .1 .1 .1 .0) * 6 + 1
 
 abbrev apply-at : ℕ → In 7 apply-kinds.ps
 apply-at t = and 7 apply-kinds.ps (is 7 apply-kinds.ps μ-apply t) apply.Pre
@@ -160,14 +160,6 @@ visit-choice-below t =
     (falls 7 visit-choice-kinds.ps _<_ μ-visit-choice t)
     visit-choice.Pre
 
-abbrev visit-free-at : ℕ → In 7 visit-free-kinds.ps
-visit-free-at t =
-    and 7 visit-free-kinds.ps (is 7 visit-free-kinds.ps μ-visit-free t) visit-free.Pre
-
-abbrev visit-free-below : ℕ → In 7 visit-free-kinds.ps
-visit-free-below t =
-    and 7 visit-free-kinds.ps (falls 7 visit-free-kinds.ps _<_ μ-visit-free t) visit-free.Pre
-
 abbrev visit-not-at : ℕ → In 7 visit-not-kinds.ps
 visit-not-at t = and 7 visit-not-kinds.ps (is 7 visit-not-kinds.ps μ-visit-not t) visit-not.Pre
 
@@ -182,6 +174,14 @@ visit-open-at t =
 abbrev visit-open-below : ℕ → In 7 visit-open-kinds.ps
 visit-open-below t =
     and 7 visit-open-kinds.ps (falls 7 visit-open-kinds.ps _<_ μ-visit-open t) visit-open.Pre
+
+abbrev visit-pair-at : ℕ → In 7 visit-pair-kinds.ps
+visit-pair-at t =
+    and 7 visit-pair-kinds.ps (is 7 visit-pair-kinds.ps μ-visit-pair t) visit-pair.Pre
+
+abbrev visit-pair-below : ℕ → In 7 visit-pair-kinds.ps
+visit-pair-below t =
+    and 7 visit-pair-kinds.ps (falls 7 visit-pair-kinds.ps _<_ μ-visit-pair t) visit-pair.Pre
 
 abbrev visit-repetition-at : ℕ → In 7 visit-repetition-kinds.ps
 visit-repetition-at t =
@@ -216,10 +216,10 @@ visit-sequence-below t =
     visit-sequence.Pre
 
 abbrev apply-claims : ℕ → apply-lts.Claims
-apply-claims t = (kind-of-reads.Asked, kind-of-reads.Learnt, pos-of-reads.Asked, pos-of-reads.Learnt, answer-reads.Asked, answer-reads.Learnt, a-of-reads.Asked, a-of-reads.Learnt, b-of-reads.Asked, b-of-reads.Learnt, range-end-reads.Asked, range-end-reads.Learnt, use-free-below t, use-free.Post, visit-sequence-below t, visit-sequence.Post, visit-choice-below t, visit-choice.Post, visit-not-below t, visit-not.Post, visit-repetition-below t, visit-repetition.Post)
+apply-claims t = (kind-of-reads.Asked, kind-of-reads.Learnt, pos-of-reads.Asked, pos-of-reads.Learnt, answer-reads.Asked, answer-reads.Learnt, a-of-reads.Asked, a-of-reads.Learnt, b-of-reads.Asked, b-of-reads.Learnt, range-end-reads.Asked, range-end-reads.Learnt, use-free-below t, use-free.Post, visit-pair-below t, visit-pair.Post, visit-not-below t, visit-not.Post, visit-repetition-below t, visit-repetition.Post, end-of-reads.Asked, end-of-reads.Learnt, list-of-reads.Asked, list-of-reads.Learnt, keep-reads.Asked, keep-reads.Learnt)
 
 abbrev use-free-claims : ℕ → use-free-lts.Claims
-use-free-claims t = (pos-of-reads.Asked, pos-of-reads.Learnt, root-of-reads.Asked, root-of-reads.Learnt, visit-free-below t, visit-free.Post, end-of-reads.Asked, end-of-reads.Learnt, list-of-reads.Asked, list-of-reads.Learnt, planted-reads.Asked, planted-reads.Learnt, answer-reads.Asked, answer-reads.Learnt)
+use-free-claims t = (pos-of-reads.Asked, pos-of-reads.Learnt, root-of-reads.Asked, root-of-reads.Learnt, visit-below t, visit.Post, end-of-reads.Asked, end-of-reads.Learnt, list-of-reads.Asked, list-of-reads.Learnt, planted-reads.Asked, planted-reads.Learnt, answer-reads.Asked, answer-reads.Learnt)
 
 abbrev use-live-claims : ℕ → use-live-lts.Claims
 use-live-claims t = (root-of-reads.Asked, root-of-reads.Learnt, pos-of-reads.Asked, pos-of-reads.Learnt, live-of-reads.Asked, live-of-reads.Learnt, put-use-reads.Asked, put-use-reads.Learnt, visit-below t, visit.Post, end-of-reads.Asked, end-of-reads.Learnt, list-of-reads.Asked, list-of-reads.Learnt, planted-reads.Asked, planted-reads.Learnt, answer-reads.Asked, answer-reads.Learnt)
@@ -228,25 +228,93 @@ abbrev use-rule-claims : ℕ → use-rule-lts.Claims
 use-rule-claims t = (live-of-reads.Asked, live-of-reads.Learnt, pos-of-reads.Asked, pos-of-reads.Learnt, find-use-reads.Asked, find-use-reads.Learnt, answer-reads.Asked, answer-reads.Learnt, use-live-below t, use-live.Post)
 
 abbrev visit-claims : ℕ → visit-lts.Claims
-visit-claims t = (visit-free-below t, visit-free.Post, enter-reads.Asked, enter-reads.Learnt, pos-of-reads.Asked, pos-of-reads.Learnt, answer-reads.Asked, answer-reads.Learnt, visit-open-below t, visit-open.Post)
+visit-claims t = (enter-reads.Asked, enter-reads.Learnt, pos-of-reads.Asked, pos-of-reads.Learnt, answer-reads.Asked, answer-reads.Learnt, visit-open-below t, visit-open.Post, kept-word-reads.Asked, kept-word-reads.Learnt, kept-at-reads.Asked, kept-at-reads.Learnt, apply-below t, apply.Post)
 
 abbrev visit-choice-claims : ℕ → visit-choice-lts.Claims
 visit-choice-claims t = (visit-below t, visit.Post, end-of-reads.Asked, end-of-reads.Learnt)
-
-abbrev visit-free-claims : ℕ → visit-free-lts.Claims
-visit-free-claims t = (enter-reads.Asked, enter-reads.Learnt, pos-of-reads.Asked, pos-of-reads.Learnt, answer-reads.Asked, answer-reads.Learnt, kept-word-reads.Asked, kept-word-reads.Learnt, kept-at-reads.Asked, kept-at-reads.Learnt, apply-below t, apply.Post, end-of-reads.Asked, end-of-reads.Learnt, list-of-reads.Asked, list-of-reads.Learnt, keep-reads.Asked, keep-reads.Learnt)
 
 abbrev visit-not-claims : ℕ → visit-not-lts.Claims
 visit-not-claims t = (visit-below t, visit.Post, end-of-reads.Asked, end-of-reads.Learnt, pos-of-reads.Asked, pos-of-reads.Learnt, answer-reads.Asked, answer-reads.Learnt)
 
 abbrev visit-open-claims : ℕ → visit-open-lts.Claims
-visit-open-claims t = (kind-of-reads.Asked, kind-of-reads.Learnt, a-of-reads.Asked, a-of-reads.Learnt, b-of-reads.Asked, b-of-reads.Learnt, pos-of-reads.Asked, pos-of-reads.Learnt, range-end-reads.Asked, range-end-reads.Learnt, answer-reads.Asked, answer-reads.Learnt, use-rule-below t, use-rule.Post, apply-below t, apply.Post)
+visit-open-claims t = (kind-of-reads.Asked, kind-of-reads.Learnt, a-of-reads.Asked, a-of-reads.Learnt, b-of-reads.Asked, b-of-reads.Learnt, pos-of-reads.Asked, pos-of-reads.Learnt, range-end-reads.Asked, range-end-reads.Learnt, answer-reads.Asked, answer-reads.Learnt, use-rule-below t, use-rule.Post, visit-pair-below t, visit-pair.Post, apply-below t, apply.Post)
+
+abbrev visit-pair-claims : ℕ → visit-pair-lts.Claims
+visit-pair-claims t = (a-of-reads.Asked, a-of-reads.Learnt, b-of-reads.Asked, b-of-reads.Learnt, kind-of-reads.Asked, kind-of-reads.Learnt, visit-sequence-below t, visit-sequence.Post, visit-choice-below t, visit-choice.Post)
 
 abbrev visit-repetition-claims : ℕ → visit-repetition-lts.Claims
 visit-repetition-claims t = (pos-of-reads.Asked, pos-of-reads.Learnt, visit-below t, visit.Post, end-of-reads.Asked, end-of-reads.Learnt, answer-reads.Asked, answer-reads.Learnt, moved-reads.Asked, moved-reads.Learnt, list-of-reads.Asked, list-of-reads.Learnt, joined-reads.Asked, joined-reads.Learnt)
 
 abbrev visit-sequence-claims : ℕ → visit-sequence-lts.Claims
 visit-sequence-claims t = (visit-below t, visit.Post, end-of-reads.Asked, end-of-reads.Learnt, moved-reads.Asked, moved-reads.Learnt, list-of-reads.Asked, list-of-reads.Learnt, joined-reads.Asked, joined-reads.Learnt)
+
+-- Where the arms of the decision over the kind meet: whichever was taken, the node is applied.
+apply-met : (t : ℕ) (c : apply-lts.At-match-came (apply-claims t) (apply-at t) apply.Post)
+    → Ends
+    (lent (c .before .before .before .args .table .now .now) (c .before .before .before .args .given .now)) (c .before .before .before .args .line .now .now)
+    (c .before .before .before .args .work .now .now) (c .match .work .now) (c .before .before .before .args .spot) (c .match .done)
+    (λ l s.
+    applies
+    (lent (c .before .before .before .args .table .now .now) (c .before .before .before .args .given .now)) (c .before .before .before .args .line .now .now)
+    (leftIn (c .before .before .before .args .spot)) l (c .before .before .before .args .node) (posIn (c .before .before .before .args .spot)) s)
+    × (c .match .work .name ≡ c .before .before .before .args .work .now .name)
+apply-met t c =
+    let at-start = c .before .before .before in
+    let at-kind-of = c .before .kind-of in
+    let ready = at-start .pre .1 .0 in
+    let fit = ready .fit in
+    let kind = sym (at-kind-of .ensures .0) in
+    ⊎-elim
+    (λ w. rw (w .3, w .4) (
+      record {
+        came = came-at _ _ (fit .short) _ _ _ _ (w .2 .ensures .0 ∙ w .1 .ensures) (w .2 .ensures .1) refl refl (apply-empty _ _ fit _ _ _ (ready .node-in) (ready .words) (ready .made-in) (kind ∙ w .0 .keys1) (ready .pos-in));
+        cells = omega arith;
+      },
+      refl,
+    ))
+    (⊎-elim
+    (λ w. rw (w .9, w .10) (
+      record {
+        came = came-at _ _ (fit .short) _ _ _ _ (w .8 .ensures .0) (w .8 .ensures .1) refl refl
+            (apply-range _ _ fit _ _ _ (ready .node-in) (ready .words) (ready .made-in) (kind ∙ w .0 .keys2) _ _ _ (w .3 .ensures .0) (w .5 .ensures .0) (rw (w .6 .ensures) at (w .7 .ensures)));
+        cells = omega arith;
+      },
+      refl,
+    ))
+    (⊎-elim
+    (λ w. rw (w .5, w .6) (
+      record {
+        came = apply-rule _ _ fit _ _ _ (ready .node-in) (kind ∙ w .0 .keys3) _ (w .3 .ensures .0)
+            (uses-free _ _ fit _ _ _ (at-start .pre .1 .1 .1 .0 (kind ∙ w .0 .keys3)) _ (let a = w .3 .ensures .0 in let r = rule-used _ _ fit (at-start .args .node) (ready .node-in) (kind ∙ w .0 .keys3) in omega arith) refl (w .4 .ensures .0 .came));
+        cells = w .4 .ensures .0 .cells;
+      },
+      w .4 .ensures .1,
+    ))
+    (⊎-elim
+    (λ w. rw (w .3, w .4) (w .2 .ensures .0, w .2 .ensures .1))
+    (⊎-elim
+    (λ w. rw (w .3, w .4) (w .2 .ensures .0, w .2 .ensures .1))
+    (⊎-elim
+    (λ w. rw (w .5, w .6) (
+      record { came = apply-not _ _ fit _ _ _ (ready .node-in) (kind ∙ w .0 .keys6) _ (w .3 .ensures .0) (w .4 .ensures .0 .came); cells = w .4 .ensures .0 .cells },
+      w .4 .ensures .1,
+    ))
+    (⊎-elim
+    (λ w. rw (w .5, w .6) (
+      record { came = apply-repetition _ _ fit _ _ _ (ready .node-in) (kind ∙ w .0 .keys7) _ (w .3 .ensures .0) (w .4 .ensures .0 .came); cells = w .4 .ensures .0 .cells },
+      w .4 .ensures .1,
+    ))
+    (λ w.
+    let r = w .0 .rest in
+    let q = above-six (at-kind-of .result) (r .0 .0 .0 .0 .0 .0 .1) (r .0 .0 .0 .0 .0 .1) (r .0 .0 .0 .0 .1) (r .0 .0 .0 .1) (r .0 .0 .1) (r .0 .1) (r .1) in
+    rw (w .3, w .4) (
+      record {
+        came = came-at _ _ (fit .short) _ _ _ _ (w .2 .ensures .0 ∙ w .1 .ensures) (w .2 .ensures .1) refl refl (apply-above _ _ fit _ _ _ (ready .node-in) (ready .words) (ready .made-in) (q .0) (kind ∙ q .1) (ready .pos-in));
+        cells = omega arith;
+      },
+      refl,
+    ))))))))
+    (c .match .came)
 
 apply-kind-of-requires : (t : ℕ) → apply-lts.Need-kind-of-requires (apply-claims t) (apply-at t) apply.Post
 apply-kind-of-requires t c κs =
@@ -309,7 +377,21 @@ apply-use-free-requires t c κs =
     let r = rule-used _ _ fit (at-start .args .node) (ready .node-in) kind in
     let la : at-a-of2 .result < rulesIn (lent (at-start .args .table .now .now) (at-start .args .given .now)) = omega arith in
     let few-rules = well-formed _ (fit .accepted) .few-rules in
-    (omega (arith, at-start .pre .0), (ready-at _ ready (root-in _ _ fit _ la), ((at-start .pre .1 .1 .0, (omega arith, la)), at-start .pre .1 .1 .1 kind)))
+    (omega (arith, at-start .pre .0), (ready-at _ ready (root-in _ _ fit _ la), (at-start .pre .1 .1 .0, (omega arith, la))))
+
+apply-visit-pair-requires : (t : ℕ) → apply-lts.Need-visit-pair-requires (apply-claims t) (apply-at t) apply.Post
+apply-visit-pair-requires t c κs =
+    let at-start = c .before .before .before .before in
+    let at-kind-of = c .before .before .kind-of in
+    let at-match = c .before .match in
+    (omega (arith, at-start .pre .0), (at-start .pre .1 .0, (at-start .pre .1 .1 .0, inl (sym (at-kind-of .ensures .0) ∙ at-match .keys4))))
+
+apply-visit-pair-requires-2 : (t : ℕ) → apply-lts.Need-visit-pair-requires-2 (apply-claims t) (apply-at t) apply.Post
+apply-visit-pair-requires-2 t c κs =
+    let at-start = c .before .before .before .before in
+    let at-kind-of = c .before .before .kind-of in
+    let at-match = c .before .match in
+    (omega (arith, at-start .pre .0), (at-start .pre .1 .0, (at-start .pre .1 .1 .0, inr (sym (at-kind-of .ensures .0) ∙ at-match .keys5))))
 
 apply-a-of-requires-3 : (t : ℕ) → apply-lts.Need-a-of-requires-3 (apply-claims t) (apply-at t) apply.Post
 apply-a-of-requires-3 t c κs =
@@ -318,26 +400,17 @@ apply-a-of-requires-3 t c κs =
     let fit = at-start .pre .1 .0 .fit in
     (fit .accepted, (ready .node-in, fit .first))
 
-apply-b-of-requires-2 : (t : ℕ) → apply-lts.Need-b-of-requires-2 (apply-claims t) (apply-at t) apply.Post
-apply-b-of-requires-2 t c κs =
-    let at-start = c .before .before .before .before .before .before .before in
-    let ready = at-start .pre .1 .0 in
-    let fit = at-start .pre .1 .0 .fit in
-    (fit .accepted, (ready .node-in, fit .first))
-
-apply-visit-sequence-requires : (t : ℕ) → apply-lts.Need-visit-sequence-requires (apply-claims t) (apply-at t) apply.Post
-apply-visit-sequence-requires t c κs =
-    let at-start = c .before .before .before .before .before .before .before .before in
-    let at-a-of3 = c .before .before .a-of3 in
-    let at-b-of2 = c .b-of2 in
-    let at-kind-of = c .before .before .before .before .before .before .kind-of in
-    let at-match = c .before .before .before .before .before .match in
+apply-visit-not-requires : (t : ℕ) → apply-lts.Need-visit-not-requires (apply-claims t) (apply-at t) apply.Post
+apply-visit-not-requires t c κs =
+    let at-start = c .before .before .before .before .before .before in
+    let at-a-of3 = c .a-of3 in
+    let at-kind-of = c .before .before .before .before .kind-of in
+    let at-match = c .before .before .before .match in
     let ready = at-start .pre .1 .0 in
     let fit = at-start .pre .1 .0 .fit in
     let e = at-a-of3 .ensures .0 in
-    let f = at-b-of2 .ensures .0 in
-    let k = sequence-children _ _ fit (at-start .args .node) (ready .node-in) (sym (at-kind-of .ensures .0) ∙ at-match .keys4) in
-    (omega (arith, at-start .pre .0), (ready-at _ ready (omega arith), (at-start .pre .1 .1 .0, omega arith)))
+    let k = not-child _ _ fit (at-start .args .node) (ready .node-in) (sym (at-kind-of .ensures .0) ∙ at-match .keys6) in
+    (omega (arith, at-start .pre .0), (ready-at _ ready (omega arith), at-start .pre .1 .1 .0))
 
 apply-a-of-requires-4 : (t : ℕ) → apply-lts.Need-a-of-requires-4 (apply-claims t) (apply-at t) apply.Post
 apply-a-of-requires-4 t c κs =
@@ -346,62 +419,15 @@ apply-a-of-requires-4 t c κs =
     let fit = at-start .pre .1 .0 .fit in
     (fit .accepted, (ready .node-in, fit .first))
 
-apply-b-of-requires-3 : (t : ℕ) → apply-lts.Need-b-of-requires-3 (apply-claims t) (apply-at t) apply.Post
-apply-b-of-requires-3 t c κs =
-    let at-start = c .before .before .before .before .before .before .before in
-    let ready = at-start .pre .1 .0 in
-    let fit = at-start .pre .1 .0 .fit in
-    (fit .accepted, (ready .node-in, fit .first))
-
-apply-visit-choice-requires : (t : ℕ) → apply-lts.Need-visit-choice-requires (apply-claims t) (apply-at t) apply.Post
-apply-visit-choice-requires t c κs =
-    let at-start = c .before .before .before .before .before .before .before .before in
-    let at-a-of4 = c .before .before .a-of4 in
-    let at-b-of3 = c .b-of3 in
-    let at-kind-of = c .before .before .before .before .before .before .kind-of in
-    let at-match = c .before .before .before .before .before .match in
-    let ready = at-start .pre .1 .0 in
-    let fit = at-start .pre .1 .0 .fit in
-    let e = at-a-of4 .ensures .0 in
-    let f = at-b-of3 .ensures .0 in
-    let k = choice-children _ _ fit (at-start .args .node) (ready .node-in) (sym (at-kind-of .ensures .0) ∙ at-match .keys5) in
-    (omega (arith, at-start .pre .0), (ready-at _ ready (omega arith), (at-start .pre .1 .1 .0, omega arith)))
-
-apply-a-of-requires-5 : (t : ℕ) → apply-lts.Need-a-of-requires-5 (apply-claims t) (apply-at t) apply.Post
-apply-a-of-requires-5 t c κs =
-    let at-start = c .before .before .before .before .before in
-    let ready = at-start .pre .1 .0 in
-    let fit = at-start .pre .1 .0 .fit in
-    (fit .accepted, (ready .node-in, fit .first))
-
-apply-visit-not-requires : (t : ℕ) → apply-lts.Need-visit-not-requires (apply-claims t) (apply-at t) apply.Post
-apply-visit-not-requires t c κs =
-    let at-start = c .before .before .before .before .before .before in
-    let at-a-of5 = c .a-of5 in
-    let at-kind-of = c .before .before .before .before .kind-of in
-    let at-match = c .before .before .before .match in
-    let ready = at-start .pre .1 .0 in
-    let fit = at-start .pre .1 .0 .fit in
-    let e = at-a-of5 .ensures .0 in
-    let k = not-child _ _ fit (at-start .args .node) (ready .node-in) (sym (at-kind-of .ensures .0) ∙ at-match .keys6) in
-    (omega (arith, at-start .pre .0), (ready-at _ ready (omega arith), at-start .pre .1 .1 .0))
-
-apply-a-of-requires-6 : (t : ℕ) → apply-lts.Need-a-of-requires-6 (apply-claims t) (apply-at t) apply.Post
-apply-a-of-requires-6 t c κs =
-    let at-start = c .before .before .before .before .before in
-    let ready = at-start .pre .1 .0 in
-    let fit = at-start .pre .1 .0 .fit in
-    (fit .accepted, (ready .node-in, fit .first))
-
 apply-visit-repetition-requires : (t : ℕ) → apply-lts.Need-visit-repetition-requires (apply-claims t) (apply-at t) apply.Post
 apply-visit-repetition-requires t c κs =
     let at-start = c .before .before .before .before .before .before in
-    let at-a-of6 = c .a-of6 in
+    let at-a-of4 = c .a-of4 in
     let at-kind-of = c .before .before .before .before .kind-of in
     let at-match = c .before .before .before .match in
     let ready = at-start .pre .1 .0 in
     let fit = at-start .pre .1 .0 .fit in
-    let e = at-a-of6 .ensures .0 in
+    let e = at-a-of4 .ensures .0 in
     let k = repetition-child _ _ fit (at-start .args .node) (ready .node-in) (sym (at-kind-of .ensures .0) ∙ at-match .keys7) in
     (omega (arith, at-start .pre .0), (ready-at _ ready (omega arith), (at-start .pre .1 .1 .0, ready .node-in)))
 
@@ -411,148 +437,55 @@ apply-pos-of-requires-3 t c κs = tt
 apply-answer-requires-3 : (t : ℕ) → apply-lts.Need-answer-requires-3 (apply-claims t) (apply-at t) apply.Post
 apply-answer-requires-3 t c κs = tt
 
+apply-element-copy-out-if1 : (t : ℕ) → apply-lts.Need-element-copy-out-if1 (apply-claims t) (apply-at t) apply.Post
+apply-element-copy-out-if1 t c = search needs
+
 apply-returns : (t : ℕ) → apply-lts.Need-returns (apply-claims t) (apply-at t) apply.Post
 apply-returns t c =
     let at-start = c .before .before .before .before .before in
-    let at-answer = c .answer in
-    let at-pos-of = c .before .pos-of in
-    let at-kind-of = c .before .before .before .kind-of in
-    let at-match = c .before .before .match in
+    let at-if1 = c .if1 in
+    let rec-match = c .before .before in
     let ready = at-start .pre .1 .0 in
-    let fit = at-start .pre .1 .0 .fit in (
-      record {
-        came = came-at _ _ (fit .short) _ _ _ _ (at-answer .ensures .0 ∙ at-pos-of .ensures) (at-answer .ensures .1) refl refl
-            (apply-empty _ _ fit _ _ _ (ready .node-in) (ready .words) (ready .made-in) (sym (at-kind-of .ensures .0) ∙ at-match .keys1) (ready .pos-in));
-        cells = omega arith;
-      },
-      refl,
-    )
+    let met = apply-met t rec-match in
+    (plain-opens (lent (at-start .args .table .now .now) (at-start .args .given .now)) (at-start .args .line .now .now) (at-start .args .work .now .now) (at-start .args .spot) (at-start .args .node) (posIn (at-start .args .spot)) ready (keeps-no _ (at-if1 .taken)) _ _ (met .0), met .1)
+
+apply-slice-aggregate-keep : (t : ℕ) → apply-lts.Need-slice-aggregate-keep (apply-claims t) (apply-at t) apply.Post
+apply-slice-aggregate-keep t c = refl
+
+apply-pos-of-requires-4 : (t : ℕ) → apply-lts.Need-pos-of-requires-4 (apply-claims t) (apply-at t) apply.Post
+apply-pos-of-requires-4 t c κs = tt
+
+apply-end-of-requires : (t : ℕ) → apply-lts.Need-end-of-requires (apply-claims t) (apply-at t) apply.Post
+apply-end-of-requires t c κs = tt
+
+apply-list-of-requires : (t : ℕ) → apply-lts.Need-list-of-requires (apply-claims t) (apply-at t) apply.Post
+apply-list-of-requires t c κs = tt
+
+apply-keep-requires : (t : ℕ) → apply-lts.Need-keep-requires (apply-claims t) (apply-at t) apply.Post
+apply-keep-requires t c κs =
+    let at-start = c .before .before .before .before .before .before .before .before .before .before in
+    let at-end-of = c .before .end-of in
+    let at-pos-of4 = c .before .before .pos-of4 in
+    let rec-match = c .before .before .before .before .before .before .before in
+    let ready = at-start .pre .1 .0 in
+    let met = apply-met t rec-match in
+    let e = at-end-of .ensures in
+    let m = met .0 .came .end-most in
+    (rw (at-pos-of4 .ensures) (roomy (lent (at-start .args .table .now .now) (at-start .args .given .now)) (at-start .args .line .now .now) _ (at-start .args .node) (posIn (at-start .args .spot)) (ready .fit) (met .0 .came .words .room) (ready .node-in) (ready .pos-in)), omega arith)
 
 apply-returns-2 : (t : ℕ) → apply-lts.Need-returns-2 (apply-claims t) (apply-at t) apply.Post
 apply-returns-2 t c =
     let at-start = c .before .before .before .before .before .before .before .before .before .before .before in
-    let at-answer2 = c .answer2 in
-    let at-kind-of = c .before .before .before .before .before .before .before .before .before .kind-of in
-    let at-match = c .before .before .before .before .before .before .before .before .match in
-    let at-a-of = c .before .before .before .before .before .a-of in
-    let at-b-of = c .before .before .before .b-of in
-    let at-pos-of2 = c .before .before .pos-of2 in
-    let at-range-end = c .before .range-end in
+    let at-if1 = c .before .before .before .before .before .before .if1 in
+    let at-pos-of4 = c .before .before .before .pos-of4 in
+    let at-end-of = c .before .before .end-of in
+    let at-list-of = c .before .list-of in
+    let at-keep = c .keep in
+    let rec-match = c .before .before .before .before .before .before .before .before in
     let ready = at-start .pre .1 .0 in
-    let fit = at-start .pre .1 .0 .fit in (
-      record {
-        came = came-at _ _ (fit .short) _ _ _ _ (at-answer2 .ensures .0) (at-answer2 .ensures .1) refl refl
-            (apply-range _ _ fit _ _ _ (ready .node-in) (ready .words) (ready .made-in) (sym (at-kind-of .ensures .0) ∙ at-match .keys2) _ _ _ (at-a-of .ensures .0) (at-b-of .ensures .0) (rw (at-pos-of2 .ensures) at (at-range-end .ensures)));
-        cells = omega arith;
-      },
-      refl,
-    )
-
-apply-returns-3 : (t : ℕ) → apply-lts.Need-returns-3 (apply-claims t) (apply-at t) apply.Post
-apply-returns-3 t c =
-    let at-start = c .before .before .before .before .before .before .before in
-    let at-a-of2 = c .before .a-of2 in
-    let at-kind-of = c .before .before .before .before .before .kind-of in
-    let at-match = c .before .before .before .before .match in
-    let at-use-free = c .use-free in
-    let ready = at-start .pre .1 .0 in
-    let fit = at-start .pre .1 .0 .fit in
-    let e = at-a-of2 .ensures .0 in
-    let kind = sym (at-kind-of .ensures .0) ∙ at-match .keys3 in
-    let r = rule-used _ _ fit (at-start .args .node) (ready .node-in) kind in
-    let la : at-a-of2 .result < rulesIn (lent (at-start .args .table .now .now) (at-start .args .given .now)) = omega arith in (
-      record {
-        came = apply-rule _ _ fit _ _ _ (ready .node-in) kind _ (at-a-of2 .ensures .0)
-            (uses-free _ _ fit _ _ _ (at-start .pre .1 .1 .1 kind) _ la refl (at-use-free .ensures .0 .came));
-        cells = at-use-free .ensures .0 .cells;
-      },
-      at-use-free .ensures .1,
-    )
-
-apply-returns-4 : (t : ℕ) → apply-lts.Need-returns-4 (apply-claims t) (apply-at t) apply.Post
-apply-returns-4 t c =
-    let at-start = c .before .before .before .before .before .before .before .before .before in
-    let at-kind-of = c .before .before .before .before .before .before .before .kind-of in
-    let at-match = c .before .before .before .before .before .before .match in
-    let at-a-of3 = c .before .before .before .a-of3 in
-    let at-b-of2 = c .before .b-of2 in
-    let at-visit-sequence = c .visit-sequence in
-    let ready = at-start .pre .1 .0 in
-    let fit = at-start .pre .1 .0 .fit in (
-      record {
-        came = apply-sequence _ _ fit _ _ _ (ready .node-in) (sym (at-kind-of .ensures .0) ∙ at-match .keys4) _ _ (at-a-of3 .ensures .0) (at-b-of2 .ensures .0) (at-visit-sequence .ensures .0 .came);
-        cells = at-visit-sequence .ensures .0 .cells;
-      },
-      at-visit-sequence .ensures .1,
-    )
-
-apply-returns-5 : (t : ℕ) → apply-lts.Need-returns-5 (apply-claims t) (apply-at t) apply.Post
-apply-returns-5 t c =
-    let at-start = c .before .before .before .before .before .before .before .before .before in
-    let at-kind-of = c .before .before .before .before .before .before .before .kind-of in
-    let at-match = c .before .before .before .before .before .before .match in
-    let at-a-of4 = c .before .before .before .a-of4 in
-    let at-b-of3 = c .before .b-of3 in
-    let at-visit-choice = c .visit-choice in
-    let ready = at-start .pre .1 .0 in
-    let fit = at-start .pre .1 .0 .fit in (
-      record {
-        came = apply-choice _ _ fit _ _ _ (ready .node-in) (sym (at-kind-of .ensures .0) ∙ at-match .keys5) _ _ (at-a-of4 .ensures .0) (at-b-of3 .ensures .0) (at-visit-choice .ensures .0 .came);
-        cells = at-visit-choice .ensures .0 .cells;
-      },
-      at-visit-choice .ensures .1,
-    )
-
-apply-returns-6 : (t : ℕ) → apply-lts.Need-returns-6 (apply-claims t) (apply-at t) apply.Post
-apply-returns-6 t c =
-    let at-start = c .before .before .before .before .before .before .before in
-    let at-kind-of = c .before .before .before .before .before .kind-of in
-    let at-match = c .before .before .before .before .match in
-    let at-a-of5 = c .before .a-of5 in
-    let at-visit-not = c .visit-not in
-    let ready = at-start .pre .1 .0 in
-    let fit = at-start .pre .1 .0 .fit in (
-      record {
-        came = apply-not _ _ fit _ _ _ (ready .node-in) (sym (at-kind-of .ensures .0) ∙ at-match .keys6) _ (at-a-of5 .ensures .0) (at-visit-not .ensures .0 .came);
-        cells = at-visit-not .ensures .0 .cells;
-      },
-      at-visit-not .ensures .1,
-    )
-
-apply-returns-7 : (t : ℕ) → apply-lts.Need-returns-7 (apply-claims t) (apply-at t) apply.Post
-apply-returns-7 t c =
-    let at-start = c .before .before .before .before .before .before .before in
-    let at-kind-of = c .before .before .before .before .before .kind-of in
-    let at-match = c .before .before .before .before .match in
-    let at-a-of6 = c .before .a-of6 in
-    let at-visit-repetition = c .visit-repetition in
-    let ready = at-start .pre .1 .0 in
-    let fit = at-start .pre .1 .0 .fit in (
-      record {
-        came = apply-repetition _ _ fit _ _ _ (ready .node-in) (sym (at-kind-of .ensures .0) ∙ at-match .keys7) _ (at-a-of6 .ensures .0) (at-visit-repetition .ensures .0 .came);
-        cells = at-visit-repetition .ensures .0 .cells;
-      },
-      at-visit-repetition .ensures .1,
-    )
-
-apply-returns-8 : (t : ℕ) → apply-lts.Need-returns-8 (apply-claims t) (apply-at t) apply.Post
-apply-returns-8 t c =
-    let at-start = c .before .before .before .before .before in
-    let at-match = c .before .before .match in
-    let at-kind-of = c .before .before .before .kind-of in
-    let at-answer3 = c .answer3 in
-    let at-pos-of3 = c .before .pos-of3 in
-    let ready = at-start .pre .1 .0 in
-    let fit = at-start .pre .1 .0 .fit in
-    let r = at-match .rest in
-    let q = above-six (at-kind-of .result) (r .0 .0 .0 .0 .0 .0 .1) (r .0 .0 .0 .0 .0 .1) (r .0 .0 .0 .0 .1) (r .0 .0 .0 .1) (r .0 .0 .1) (r .0 .1) (r .1) in (
-      record {
-        came = came-at _ _ (fit .short) _ _ _ _ (at-answer3 .ensures .0 ∙ at-pos-of3 .ensures) (at-answer3 .ensures .1) refl refl
-            (apply-above _ _ fit _ _ _ (ready .node-in) (ready .words) (ready .made-in) (q .0) (sym (at-kind-of .ensures .0) ∙ q .1) (ready .pos-in));
-        cells = omega arith;
-      },
-      refl,
-    )
+    let free = keeps-yes _ (at-if1 .left) in
+    let met = apply-met t rec-match in
+    (open-applied (lent (at-start .args .table .now .now) (at-start .args .given .now)) (at-start .args .line .now .now) (at-start .args .work .now .now) (at-start .args .spot) (at-start .args .node) (posIn (at-start .args .spot)) ready (at-start .pre .1 .1 .0) free _ refl _ (at-start .pre .1 .1 .1 .1 free) _ _ (met .0) (rw (at-pos-of4 .ensures, at-end-of .ensures, at-list-of .ensures) at (at-keep .ensures)), met .1)
 
 use-free-pos-of-requires : (t : ℕ) → use-free-lts.Need-pos-of-requires (use-free-claims t) (use-free-at t) use-free.Post
 use-free-pos-of-requires t c κs = tt
@@ -560,14 +493,14 @@ use-free-pos-of-requires t c κs = tt
 use-free-root-of-requires : (t : ℕ) → use-free-lts.Need-root-of-requires (use-free-claims t) (use-free-at t) use-free.Post
 use-free-root-of-requires t c κs =
     let at-start = c .before .before in
-    (at-start .pre .1 .0 .fit .accepted, at-start .pre .1 .1 .0 .1 .1)
+    (at-start .pre .1 .0 .fit .accepted, at-start .pre .1 .1 .1 .1)
 
-use-free-visit-free-requires : (t : ℕ) → use-free-lts.Need-visit-free-requires (use-free-claims t) (use-free-at t) use-free.Post
-use-free-visit-free-requires t c κs =
+use-free-visit-requires : (t : ℕ) → use-free-lts.Need-visit-requires (use-free-claims t) (use-free-at t) use-free.Post
+use-free-visit-requires t c κs =
     let at-start = c .before .before .before .before in
     let at-root-of = c .before .root-of in
     let ready = at-start .pre .1 .0 in
-    (omega (arith, at-start .pre .0), (rw (at-root-of .ensures .0) ready, at-start .pre .1 .1 .1))
+    (omega (arith, at-start .pre .0), rw (at-root-of .ensures .0) ready)
 
 use-free-end-of-requires : (t : ℕ) → use-free-lts.Need-end-of-requires (use-free-claims t) (use-free-at t) use-free.Post
 use-free-end-of-requires t c κs = tt
@@ -575,7 +508,7 @@ use-free-end-of-requires t c κs = tt
 use-free-returns : (t : ℕ) → use-free-lts.Need-returns (use-free-claims t) (use-free-at t) use-free.Post
 use-free-returns t c =
     let at-start = c .before .before .before .before .before .before .before in
-    let at-visit-free = c .before .before .visit-free in
+    let at-visit = c .before .before .visit in
     let at-end-of = c .before .end-of in
     let at-if1 = c .if1 in
     let at-root-of = c .before .before .before .before .root-of in
@@ -583,9 +516,9 @@ use-free-returns t c =
     let given = lent (at-start .args .table .now .now) (at-start .args .given .now) in
     let line = at-start .args .line .now .now in
     let visiting = reading given line (leftIn (at-start .args .spot)) in
-    let one = at-visit-free .ensures .0 .came in
-    let stop = let q : 65534 ≤ endIn (at-visit-free .result) = rw (← at-end-of .ensures) (at-if1 .taken) in q in
-    (record { came = use-unmatched _ _ fit visiting _ _ (rw (at-root-of .ensures .0) at one) _ stop; cells = at-visit-free .ensures .0 .cells }, at-visit-free .ensures .1)
+    let one = at-visit .ensures .0 .came in
+    let stop = let q : 65534 ≤ endIn (at-visit .result) = rw (← at-end-of .ensures) (at-if1 .taken) in q in
+    (record { came = use-unmatched _ _ fit visiting _ _ (rw (at-root-of .ensures .0) at one) _ stop; cells = at-visit .ensures .0 .cells }, at-visit .ensures .1)
 
 use-free-slice-aggregate-planted : (t : ℕ) → use-free-lts.Need-slice-aggregate-planted (use-free-claims t) (use-free-at t) use-free.Post
 use-free-slice-aggregate-planted t c = refl
@@ -596,16 +529,16 @@ use-free-list-of-requires t c κs = tt
 use-free-planted-requires : (t : ℕ) → use-free-lts.Need-planted-requires (use-free-claims t) (use-free-at t) use-free.Post
 use-free-planted-requires t c κs =
     let at-start = c .before .before .before .before .before .before .before .before .before in
-    let at-visit-free = c .before .before .before .before .visit-free in
+    let at-visit = c .before .before .before .before .visit in
     let at-end-of = c .before .before .before .end-of in
     let at-if1 = c .before .before .if1 in
     let at-list-of = c .list-of in
     let at-pos-of = c .before .before .before .before .before .before .before .before .pos-of in
     let ready = at-start .pre .1 .0 in
     let fit = at-start .pre .1 .0 .fit in
-    let one = at-visit-free .ensures .0 .came in
-    let short = let q : endIn (at-visit-free .result) < 65534 = rw (← at-end-of .ensures) (at-if1 .left) in q in
-    let fewer = at-visit-free .ensures .0 .fewer short in
+    let one = at-visit .ensures .0 .came in
+    let short = let q : endIn (at-visit .result) < 65534 = rw (← at-end-of .ensures) (at-if1 .left) in q in
+    let fewer = at-visit .ensures .0 .fewer short in
     let f = fewer in
     let m = one .made-in in
     let r = one .words .room in
@@ -615,7 +548,7 @@ use-free-planted-requires t c κs =
     let p = ready .pos-in in
     let s = fit .short in
     let al = fit .allowance in
-    ((one .words .arena, omega (arith, at-list-of .ensures)), ((omega arith, omega arith), (at-start .pre .1 .1 .0 .1 .0, (omega (arith, at-pos-of .ensures), omega (arith, at-end-of .ensures)))))
+    ((one .words .arena, omega (arith, at-list-of .ensures)), ((omega arith, omega arith), (at-start .pre .1 .1 .1 .0, (omega (arith, at-pos-of .ensures), omega (arith, at-end-of .ensures)))))
 
 use-free-answer-requires : (t : ℕ) → use-free-lts.Need-answer-requires (use-free-claims t) (use-free-at t) use-free.Post
 use-free-answer-requires t c κs = tt
@@ -623,7 +556,7 @@ use-free-answer-requires t c κs = tt
 use-free-returns-2 : (t : ℕ) → use-free-lts.Need-returns-2 (use-free-claims t) (use-free-at t) use-free.Post
 use-free-returns-2 t c =
     let at-start = c .before .before .before .before .before .before .before .before .before .before .before in
-    let at-visit-free = c .before .before .before .before .before .before .visit-free in
+    let at-visit = c .before .before .before .before .before .before .visit in
     let at-end-of = c .before .before .before .before .before .end-of in
     let at-if1 = c .before .before .before .before .if1 in
     let at-planted = c .before .planted in
@@ -633,17 +566,17 @@ use-free-returns-2 t c =
     let at-root-of = c .before .before .before .before .before .before .before .before .root-of in
     let ready = at-start .pre .1 .0 in
     let fit = at-start .pre .1 .0 .fit in
-    let few-open = at-start .pre .1 .1 .0 .0 in
+    let few-open = at-start .pre .1 .1 .0 in
     let given = lent (at-start .args .table .now .now) (at-start .args .given .now) in
     let line = at-start .args .line .now .now in
     let visiting = reading given line (leftIn (at-start .args .spot)) in
-    let one = at-visit-free .ensures .0 .came in
-    let short = let q : endIn (at-visit-free .result) < 65534 = rw (← at-end-of .ensures) (at-if1 .left) in q in
-    let words-after = at-visit-free .last .1 .1 .1 .0 .now in
+    let one = at-visit .ensures .0 .came in
+    let short = let q : endIn (at-visit .result) < 65534 = rw (← at-end-of .ensures) (at-if1 .left) in q in
+    let words-after = at-visit .last .1 .1 .1 .0 .now in
     let words-planted = at-planted .last .0 in
-    let fewer = at-visit-free .ensures .0 .fewer short in
+    let fewer = at-visit .ensures .0 .fewer short in
     let fewer = fewer in
-    let added : Added words-after words-planted (topIn words-after) (at-planted .result) (topIn words-planted) (tree (at-start .args .rule) (posIn (at-start .args .spot)) (endIn (at-visit-free .result)) (treesAt words-after (listIn (at-visit-free .result))) no-trees)
+    let added : Added words-after words-planted (topIn words-after) (at-planted .result) (topIn words-planted) (tree (at-start .args .rule) (posIn (at-start .args .spot)) (endIn (at-visit .result)) (treesAt words-after (listIn (at-visit .result))) no-trees)
     = rw (← at-pos-of .ensures, ← at-end-of .ensures, ← at-list-of .ensures) (at-planted .ensures .0) in
     let made : madeIn words-planted ≡ madeIn words-after = added .below 2043 (omega arith) (omega arith) in (
       record {
@@ -651,7 +584,7 @@ use-free-returns-2 t c =
             (use-tree _ _ fit visiting _ _ (rw (at-root-of .ensures .0) at one) _ short (omega (arith, few-open)) (omega (arith, one .made-in, ready .top-in)) added);
         cells = omega (arith, added .one);
       },
-      at-visit-free .ensures .1,
+      at-visit .ensures .1,
     )
 
 abbrev use-live-Inv-loop : use-live-lts.InvT-loop
@@ -1343,29 +1276,15 @@ use-rule-returns-3 t c =
     let same-words = let q : at-find-use .last .0 .now ≡ at-start .args .work .now .now = ap (λ w. w .now) (at-find-use .ensures .1) in q in
     (record { came = uses-grows _ _ fit _ _ _ (at-start .pre .1 .1 .1) (rw same-words at (at-use-live .ensures .0 .came)); cells = rw same-words at (at-use-live .ensures .0 .cells) }, at-use-live .ensures .1 ∙ ap (λ w. w .name) (at-find-use .ensures .1))
 
-visit-element-copy-out-if1 : (t : ℕ) → visit-lts.Need-element-copy-out-if1 (visit-claims t) (visit-at t) visit.Post
-visit-element-copy-out-if1 t c = search needs
-
-visit-visit-free-requires : (t : ℕ) → visit-lts.Need-visit-free-requires (visit-claims t) (visit-at t) visit.Post
-visit-visit-free-requires t c κs =
-    let at-start = c .before .before .before in
-    let at-if1 = c .before .if1 in
-    (omega (arith, at-start .pre .0), (at-start .pre .1, keeps-yes _ (at-if1 .taken)))
-
-visit-returns : (t : ℕ) → visit-lts.Need-returns (visit-claims t) (visit-at t) visit.Post
-visit-returns t c =
-    let at-visit-free = c .visit-free in
-    (at-visit-free .ensures .0, at-visit-free .ensures .1)
-
 visit-enter-requires : (t : ℕ) → visit-lts.Need-enter-requires (visit-claims t) (visit-at t) visit.Post
 visit-enter-requires t c κs =
-    let at-start = c .before .before .before in
+    let at-start = c .before in
     let ready = at-start .pre .1 in
     let r = ready .words .room in (omega arith, ready .fit .allowance)
 
 visit-mul-answer : (t : ℕ) → visit-lts.Need-mul-answer (visit-claims t) (visit-at t) visit.Post
 visit-mul-answer t c =
-    let at-start = c .before .before .before .before .before in
+    let at-start = c .before .before .before in
     let at-enter = c .before .enter in
     let small = refused-small _ _ _ _ _ _ (at-start .pre .1) (at-enter .ensures .0) in
     omega (arith, small)
@@ -1375,7 +1294,7 @@ visit-pos-of-requires t c κs = tt
 
 visit-add-answer : (t : ℕ) → visit-lts.Need-add-answer (visit-claims t) (visit-at t) visit.Post
 visit-add-answer t c =
-    let at-start = c .before .before .before .before .before .before in
+    let at-start = c .before .before .before .before in
     let at-enter = c .before .before .enter in
     let at-pos-of = c .pos-of in
     let ready = at-start .pre .1 in
@@ -1385,47 +1304,249 @@ visit-add-answer t c =
 visit-answer-requires : (t : ℕ) → visit-lts.Need-answer-requires (visit-claims t) (visit-at t) visit.Post
 visit-answer-requires t c κs = tt
 
-visit-returns-2 : (t : ℕ) → visit-lts.Need-returns-2 (visit-claims t) (visit-at t) visit.Post
-visit-returns-2 t c =
-    let at-start = c .before .before .before .before .before .before .before in
+visit-returns : (t : ℕ) → visit-lts.Need-returns (visit-claims t) (visit-at t) visit.Post
+visit-returns t c =
+    let at-start = c .before .before .before .before .before in
     let at-enter = c .before .before .before .enter in
-    let at-if2 = c .before .before .if2 in
+    let at-if1 = c .before .before .if1 in
     let at-answer = c .answer in
     let at-pos-of = c .before .pos-of in
     let ready = at-start .pre .1 in
-    (refused _ _ _ _ _ _ ready (at-enter .ensures .0) (at-if2 .taken) _ (at-answer .ensures .0) (at-answer .ensures .1 ∙ ap (λ p. at-enter .result * 4096 + p) (at-pos-of .ensures)), at-enter .ensures .1)
+    (refused _ _ _ _ _ _ ready (at-enter .ensures .0) (at-if1 .taken) _ (at-answer .ensures .0) (at-answer .ensures .1 ∙ ap (λ p. at-enter .result * 4096 + p) (at-pos-of .ensures)), at-enter .ensures .1)
+
+visit-element-copy-out-if2 : (t : ℕ) → visit-lts.Need-element-copy-out-if2 (visit-claims t) (visit-at t) visit.Post
+visit-element-copy-out-if2 t c = search needs
 
 visit-sub-visit-open : (t : ℕ) → visit-lts.Need-sub-visit-open (visit-claims t) (visit-at t) visit.Post
 visit-sub-visit-open t c =
     let at-start = c .before .before .before .before .before .before in
-    let at-enter = c .before .before .enter in
-    let at-if2 = c .before .if2 in
-    let e = entered-open _ _ _ _ _ _ (at-start .pre .1) (at-enter .ensures .0) (at-if2 .left) in
+    let at-enter = c .before .before .before .before .enter in
+    let at-if1 = c .before .before .before .if1 in
+    let e = entered-open _ _ _ _ _ _ (at-start .pre .1) (at-enter .ensures .0) (at-if1 .left) in
     let some = e .1 in omega (arith, some)
 
 visit-visit-open-requires : (t : ℕ) → visit-lts.Need-visit-open-requires (visit-claims t) (visit-at t) visit.Post
 visit-visit-open-requires t c κs =
     let at-start = c .before .before .before .before .before .before in
-    let at-enter = c .before .before .enter in
+    let at-enter = c .before .before .before .before .enter in
+    let at-if1 = c .before .before .before .if1 in
     let at-if2 = c .before .if2 in
-    let at-if1 = c .before .before .before .before .if1 in
     let ready = at-start .pre .1 in
-    let e = entered-open _ _ _ _ _ _ ready (at-enter .ensures .0) (at-if2 .left) in
+    let e = entered-open _ _ _ _ _ _ ready (at-enter .ensures .0) (at-if1 .left) in
+    let opening = starts-open (lent (at-start .args .table .now .now) (at-start .args .given .now)) (at-start .args .line .now .now) (at-start .args .work .now .now) (at-start .args .spot) (at-start .args .node) (posIn (at-start .args .spot)) ready (e .0) (e .1) in
+    let counted = set (at-start .args .work .now .now) 2043 (madeIn (at-start .args .work .now .now) + 1) in
     let l = left-less (at-start .args .spot) (e .1) in
-    let v = live-less (at-start .args .spot) (e .1) in
-    let o = ready .open-in in
-    (omega (arith, at-start .pre .0), (rw (e .2, pos-less (at-start .args .spot) (e .1)) (starts-open (lent (at-start .args .table .now .now) (at-start .args .given .now)) (at-start .args .line .now .now) (at-start .args .work .now .now) (at-start .args .spot) (at-start .args .node) (posIn (at-start .args .spot)) ready (e .0) (e .1)), (omega arith, keeps-no _ (at-if1 .left))))
+    (omega (arith, at-start .pre .0), (rw (e .2, pos-less (at-start .args .spot) (e .1)) opening, (space-open (at-start .args .spot) (e .1) (ready .open-in), keeps-no _ (at-if2 .taken))))
+
+visit-returns-2 : (t : ℕ) → visit-lts.Need-returns-2 (visit-claims t) (visit-at t) visit.Post
+visit-returns-2 t c =
+    let at-start = c .before .before .before .before .before .before .before in
+    let at-enter = c .before .before .before .before .before .enter in
+    let at-if1 = c .before .before .before .before .if1 in
+    let at-visit-open = c .visit-open in
+    let ready = at-start .pre .1 in
+    let e = entered-open _ _ _ _ _ _ ready (at-enter .ensures .0) (at-if1 .left) in
+    let opening = starts-open (lent (at-start .args .table .now .now) (at-start .args .given .now)) (at-start .args .line .now .now) (at-start .args .work .now .now) (at-start .args .spot) (at-start .args .node) (posIn (at-start .args .spot)) ready (e .0) (e .1) in
+    let counted = set (at-start .args .work .now .now) 2043 (madeIn (at-start .args .work .now .now) + 1) in
+    (opened (lent (at-start .args .table .now .now) (at-start .args .given .now)) (at-start .args .line .now .now) (at-start .args .work .now .now) (at-start .args .spot) (at-start .args .node) (posIn (at-start .args .spot)) ready (e .0) (e .1) _ _ (rw (e .2, pos-less (at-start .args .spot) (e .1)) at (at-visit-open .ensures .0)), at-visit-open .ensures .1 ∙ at-enter .ensures .1)
+
+visit-pos-of-requires-2 : (t : ℕ) → visit-lts.Need-pos-of-requires-2 (visit-claims t) (visit-at t) visit.Post
+visit-pos-of-requires-2 t c κs = tt
+
+visit-kept-word-requires : (t : ℕ) → visit-lts.Need-kept-word-requires (visit-claims t) (visit-at t) visit.Post
+visit-kept-word-requires t c κs =
+    let at-start = c .before .before .before .before .before .before .before .before in
+    let at-enter = c .before .before .before .before .before .before .enter in
+    let at-if1 = c .before .before .before .before .before .if1 in
+    let at-pos-of2 = c .before .before .pos-of2 in
+    let ready = at-start .pre .1 in
+    let e = entered-open _ _ _ _ _ _ ready (at-enter .ensures .0) (at-if1 .left) in
+    let opening = starts-open (lent (at-start .args .table .now .now) (at-start .args .given .now)) (at-start .args .line .now .now) (at-start .args .work .now .now) (at-start .args .spot) (at-start .args .node) (posIn (at-start .args .spot)) ready (e .0) (e .1) in
+    let counted = set (at-start .args .work .now .now) 2043 (madeIn (at-start .args .work .now .now) + 1) in
+    let fit = ready .fit in
+    let room = roomy (lent (at-start .args .table .now .now) (at-start .args .given .now)) (at-start .args .line .now .now) counted (at-start .args .node) (posIn (at-start .args .spot)) fit (opening .words .room) (opening .node-in) (opening .pos-in) in
+    rw (at-pos-of2 .ensures, e .2) room
+
+visit-answer-requires-2 : (t : ℕ) → visit-lts.Need-answer-requires-2 (visit-claims t) (visit-at t) visit.Post
+visit-answer-requires-2 t c κs = tt
 
 visit-returns-3 : (t : ℕ) → visit-lts.Need-returns-3 (visit-claims t) (visit-at t) visit.Post
 visit-returns-3 t c =
-    let at-start = c .before .before .before .before .before .before .before in
-    let at-enter = c .before .before .before .enter in
-    let at-if2 = c .before .before .if2 in
-    let at-if1 = c .before .before .before .before .before .if1 in
-    let at-visit-open = c .visit-open in
+    let at-start = c .before .before .before .before .before .before .before .before .before .before .before in
+    let at-enter = c .before .before .before .before .before .before .before .before .before .enter in
+    let at-if1 = c .before .before .before .before .before .before .before .before .if1 in
+    let at-if2 = c .before .before .before .before .before .before .if2 in
+    let at-kept-word = c .before .before .kept-word in
+    let at-pos-of2 = c .before .before .before .before .before .pos-of2 in
+    let at-if3 = c .before .if3 in
+    let at-answer2 = c .answer2 in
     let ready = at-start .pre .1 in
-    let e = entered-open _ _ _ _ _ _ ready (at-enter .ensures .0) (at-if2 .left) in
-    (opened-plain (lent (at-start .args .table .now .now) (at-start .args .given .now)) (at-start .args .line .now .now) (at-start .args .work .now .now) (at-start .args .spot) (at-start .args .node) (posIn (at-start .args .spot)) ready (e .0) (e .1) (keeps-no _ (at-if1 .left)) _ _ (rw (e .2, pos-less (at-start .args .spot) (e .1)) at (at-visit-open .ensures .0)), at-visit-open .ensures .1 ∙ at-enter .ensures .1)
+    let e = entered-open _ _ _ _ _ _ ready (at-enter .ensures .0) (at-if1 .left) in
+    let opening = starts-open (lent (at-start .args .table .now .now) (at-start .args .given .now)) (at-start .args .line .now .now) (at-start .args .work .now .now) (at-start .args .spot) (at-start .args .node) (posIn (at-start .args .spot)) ready (e .0) (e .1) in
+    let counted = set (at-start .args .work .now .now) 2043 (madeIn (at-start .args .work .now .now) + 1) in
+    let free = keeps-yes _ (at-if2 .left) in
+    let space = space-open (at-start .args .spot) (e .1) (ready .open-in) in
+    let moved = ap (λ r. r .now) (at-kept-word .ensures .1) ∙ e .2 in
+    let name = ap (λ r. r .name) (at-kept-word .ensures .1) ∙ at-enter .ensures .1 in
+    let word = let q : getD counted (placeIn (lent (at-start .args .table .now .now) (at-start .args .given .now)) (at-start .args .line .now .now) (at-start .args .node) (posIn (at-start .args .spot))) 0 ≡ 1 = sym (rw (at-pos-of2 .ensures, e .2) at (at-kept-word .ensures .0)) ∙ at-if3 .taken in q in
+    (opened (lent (at-start .args .table .now .now) (at-start .args .given .now)) (at-start .args .line .now .now) (at-start .args .work .now .now) (at-start .args .spot) (at-start .args .node) (posIn (at-start .args .spot)) ready (e .0) (e .1) _ _ (kept-failure (lent (at-start .args .table .now .now) (at-start .args .given .now)) (at-start .args .line .now .now) counted ((at-start .args .spot) - 1) (at-start .args .node) (posIn (at-start .args .spot)) opening space free _ moved _ word (at-answer2 .ensures .0) (at-answer2 .ensures .1)), name)
+
+visit-kept-at-requires : (t : ℕ) → visit-lts.Need-kept-at-requires (visit-claims t) (visit-at t) visit.Post
+visit-kept-at-requires t c κs =
+    let at-start = c .before .before .before .before .before .before .before .before .before .before .before .before in
+    let at-enter = c .before .before .before .before .before .before .before .before .before .before .enter in
+    let at-if1 = c .before .before .before .before .before .before .before .before .before .if1 in
+    let at-pos-of2 = c .before .before .before .before .before .before .pos-of2 in
+    let ready = at-start .pre .1 in
+    let e = entered-open _ _ _ _ _ _ ready (at-enter .ensures .0) (at-if1 .left) in
+    let opening = starts-open (lent (at-start .args .table .now .now) (at-start .args .given .now)) (at-start .args .line .now .now) (at-start .args .work .now .now) (at-start .args .spot) (at-start .args .node) (posIn (at-start .args .spot)) ready (e .0) (e .1) in
+    let counted = set (at-start .args .work .now .now) 2043 (madeIn (at-start .args .work .now .now) + 1) in
+    let fit = ready .fit in
+    let room = roomy (lent (at-start .args .table .now .now) (at-start .args .given .now)) (at-start .args .line .now .now) counted (at-start .args .node) (posIn (at-start .args .spot)) fit (opening .words .room) (opening .node-in) (opening .pos-in) in
+    (room .short, (room .allowance, (room .node-in, rw (at-pos-of2 .ensures) (room .pos-in))))
+
+visit-add-list : (t : ℕ) → visit-lts.Need-add-list (visit-claims t) (visit-at t) visit.Post
+visit-add-list t c =
+    let at-start = c .before .before .before .before .before .before .before .before .before .before .before .before .before in
+    let at-enter = c .before .before .before .before .before .before .before .before .before .before .before .enter in
+    let at-if1 = c .before .before .before .before .before .before .before .before .before .before .if1 in
+    let at-kept-at = c .kept-at in
+    let at-pos-of2 = c .before .before .before .before .before .before .before .pos-of2 in
+    let ready = at-start .pre .1 in
+    let e = entered-open _ _ _ _ _ _ ready (at-enter .ensures .0) (at-if1 .left) in
+    let opening = starts-open (lent (at-start .args .table .now .now) (at-start .args .given .now)) (at-start .args .line .now .now) (at-start .args .work .now .now) (at-start .args .spot) (at-start .args .node) (posIn (at-start .args .spot)) ready (e .0) (e .1) in
+    let counted = set (at-start .args .work .now .now) 2043 (madeIn (at-start .args .work .now .now) + 1) in
+    let fit = ready .fit in
+    let p = pairs-few (lent (at-start .args .table .now .now) (at-start .args .given .now)) (at-start .args .line .now .now) fit in
+    let z = pair-in (lent (at-start .args .table .now .now) (at-start .args .given .now)) (at-start .args .line .now .now) (at-start .args .node) (posIn (at-start .args .spot)) (ready .node-in) (ready .pos-in) in
+    omega (arith, fit .allowance, at-kept-at .ensures, at-pos-of2 .ensures)
+
+visit-mul-list : (t : ℕ) → visit-lts.Need-mul-list (visit-claims t) (visit-at t) visit.Post
+visit-mul-list t c =
+    let at-start = c .before .before .before .before .before .before .before .before .before .before .before .before .before in
+    let at-enter = c .before .before .before .before .before .before .before .before .before .before .before .enter in
+    let at-if1 = c .before .before .before .before .before .before .before .before .before .before .if1 in
+    let at-kept-at = c .kept-at in
+    let at-pos-of2 = c .before .before .before .before .before .before .before .pos-of2 in
+    let ready = at-start .pre .1 in
+    let e = entered-open _ _ _ _ _ _ ready (at-enter .ensures .0) (at-if1 .left) in
+    let opening = starts-open (lent (at-start .args .table .now .now) (at-start .args .given .now)) (at-start .args .line .now .now) (at-start .args .work .now .now) (at-start .args .spot) (at-start .args .node) (posIn (at-start .args .spot)) ready (e .0) (e .1) in
+    let counted = set (at-start .args .work .now .now) 2043 (madeIn (at-start .args .work .now .now) + 1) in
+    let fit = ready .fit in
+    let p = pairs-few (lent (at-start .args .table .now .now) (at-start .args .given .now)) (at-start .args .line .now .now) fit in
+    let z = pair-in (lent (at-start .args .table .now .now) (at-start .args .given .now)) (at-start .args .line .now .now) (at-start .args .node) (posIn (at-start .args .spot)) (ready .node-in) (ready .pos-in) in
+    omega (arith, fit .allowance, at-kept-at .ensures, at-pos-of2 .ensures)
+
+visit-index-1-list : (t : ℕ) → visit-lts.Need-index-1-list (visit-claims t) (visit-at t) visit.Post
+visit-index-1-list t c =
+    let at-start = c .before .before .before .before .before .before .before .before .before .before .before .before .before in
+    let at-enter = c .before .before .before .before .before .before .before .before .before .before .before .enter in
+    let at-if1 = c .before .before .before .before .before .before .before .before .before .before .if1 in
+    let at-if2 = c .before .before .before .before .before .before .before .before .if2 in
+    let at-kept-word = c .before .before .before .before .kept-word in
+    let at-kept-at = c .kept-at in
+    let at-pos-of2 = c .before .before .before .before .before .before .before .pos-of2 in
+    let ready = at-start .pre .1 in
+    let e = entered-open _ _ _ _ _ _ ready (at-enter .ensures .0) (at-if1 .left) in
+    let opening = starts-open (lent (at-start .args .table .now .now) (at-start .args .given .now)) (at-start .args .line .now .now) (at-start .args .work .now .now) (at-start .args .spot) (at-start .args .node) (posIn (at-start .args .spot)) ready (e .0) (e .1) in
+    let counted = set (at-start .args .work .now .now) 2043 (madeIn (at-start .args .work .now .now) + 1) in
+    let fit = ready .fit in
+    let room = roomy (lent (at-start .args .table .now .now) (at-start .args .given .now)) (at-start .args .line .now .now) counted (at-start .args .node) (posIn (at-start .args .spot)) fit (opening .words .room) (opening .node-in) (opening .pos-in) in
+    let free = keeps-yes _ (at-if2 .left) in
+    let space = space-open (at-start .args .spot) (e .1) (ready .open-in) in
+    let moved = ap (λ r. r .now) (at-kept-word .ensures .1) ∙ e .2 in
+    let name = ap (λ r. r .name) (at-kept-word .ensures .1) ∙ at-enter .ensures .1 in
+    let r = room .room in
+    let k = at-kept-at .ensures in
+    let p = at-pos-of2 .ensures in
+    rw moved (omega arith)
+
+visit-sub-answer : (t : ℕ) → visit-lts.Need-sub-answer (visit-claims t) (visit-at t) visit.Post
+visit-sub-answer t c =
+    let at-if4 = c .before .before .before .if4 in
+    let h = at-if4 .taken in omega arith
+
+visit-answer-requires-3 : (t : ℕ) → visit-lts.Need-answer-requires-3 (visit-claims t) (visit-at t) visit.Post
+visit-answer-requires-3 t c κs = tt
+
+visit-returns-4 : (t : ℕ) → visit-lts.Need-returns-4 (visit-claims t) (visit-at t) visit.Post
+visit-returns-4 t c =
+    let at-start = c .before .before .before .before .before .before .before .before .before .before .before .before .before .before .before in
+    let at-enter = c .before .before .before .before .before .before .before .before .before .before .before .before .before .enter in
+    let at-if1 = c .before .before .before .before .before .before .before .before .before .before .before .before .if1 in
+    let at-if2 = c .before .before .before .before .before .before .before .before .before .before .if2 in
+    let at-kept-word = c .before .before .before .before .before .before .kept-word in
+    let at-pos-of2 = c .before .before .before .before .before .before .before .before .before .pos-of2 in
+    let at-if4 = c .before .before .before .before .if4 in
+    let at-kept-at = c .before .before .kept-at in
+    let at-answer3 = c .answer3 in
+    let ready = at-start .pre .1 in
+    let e = entered-open _ _ _ _ _ _ ready (at-enter .ensures .0) (at-if1 .left) in
+    let opening = starts-open (lent (at-start .args .table .now .now) (at-start .args .given .now)) (at-start .args .line .now .now) (at-start .args .work .now .now) (at-start .args .spot) (at-start .args .node) (posIn (at-start .args .spot)) ready (e .0) (e .1) in
+    let counted = set (at-start .args .work .now .now) 2043 (madeIn (at-start .args .work .now .now) + 1) in
+    let free = keeps-yes _ (at-if2 .left) in
+    let space = space-open (at-start .args .spot) (e .1) (ready .open-in) in
+    let moved = ap (λ r. r .now) (at-kept-word .ensures .1) ∙ e .2 in
+    let name = ap (λ r. r .name) (at-kept-word .ensures .1) ∙ at-enter .ensures .1 in
+    let k = let q : at-kept-word .result ≡ getD counted (placeIn (lent (at-start .args .table .now .now) (at-start .args .given .now)) (at-start .args .line .now .now) (at-start .args .node) (posIn (at-start .args .spot))) 0 = (rw (at-pos-of2 .ensures, e .2) at (at-kept-word .ensures .0)) in q in
+    let h = at-if4 .taken in
+    let place = let q : at-kept-at .result ≡ placeIn (lent (at-start .args .table .now .now) (at-start .args .given .now)) (at-start .args .line .now .now) (at-start .args .node) (posIn (at-start .args .spot)) = rw (← at-pos-of2 .ensures) (at-kept-at .ensures) in q in (
+      opened (lent (at-start .args .table .now .now) (at-start .args .given .now)) (at-start .args .line .now .now) (at-start .args .work .now .now) (at-start .args .spot) (at-start .args .node) (posIn (at-start .args .spot)) ready (e .0) (e .1) _ _
+          (kept-match (lent (at-start .args .table .now .now) (at-start .args .given .now)) (at-start .args .line .now .now) counted ((at-start .args .spot) - 1) (at-start .args .node) (posIn (at-start .args .spot)) opening space free _ moved _ (omega arith) (at-answer3 .ensures .0 ∙ ap (λ n. n - 2) k)
+          (at-answer3 .ensures .1 ∙ ap (λ n. getD (at-kept-word .last .1 .1 .0 .now) (n + 1) 0) place ∙ ap (λ l. getD l (placeIn (lent (at-start .args .table .now .now) (at-start .args .given .now)) (at-start .args .line .now .now) (at-start .args .node) (posIn (at-start .args .spot)) + 1) 0) moved)),
+      name,
+    )
+
+visit-sub-apply : (t : ℕ) → visit-lts.Need-sub-apply (visit-claims t) (visit-at t) visit.Post
+visit-sub-apply t c =
+    let at-start = c .before .before .before .before .before .before .before .before .before .before .before .before in
+    let at-enter = c .before .before .before .before .before .before .before .before .before .before .enter in
+    let at-if1 = c .before .before .before .before .before .before .before .before .before .if1 in
+    let e = entered-open _ _ _ _ _ _ (at-start .pre .1) (at-enter .ensures .0) (at-if1 .left) in
+    let some = e .1 in omega (arith, some)
+
+visit-apply-requires : (t : ℕ) → visit-lts.Need-apply-requires (visit-claims t) (visit-at t) visit.Post
+visit-apply-requires t c κs =
+    let at-start = c .before .before .before .before .before .before .before .before .before .before .before .before in
+    let at-enter = c .before .before .before .before .before .before .before .before .before .before .enter in
+    let at-if1 = c .before .before .before .before .before .before .before .before .before .if1 in
+    let at-if2 = c .before .before .before .before .before .before .before .if2 in
+    let at-kept-word = c .before .before .before .kept-word in
+    let at-pos-of2 = c .before .before .before .before .before .before .pos-of2 in
+    let at-if3 = c .before .before .if3 in
+    let at-if4 = c .before .if4 in
+    let ready = at-start .pre .1 in
+    let e = entered-open _ _ _ _ _ _ ready (at-enter .ensures .0) (at-if1 .left) in
+    let opening = starts-open (lent (at-start .args .table .now .now) (at-start .args .given .now)) (at-start .args .line .now .now) (at-start .args .work .now .now) (at-start .args .spot) (at-start .args .node) (posIn (at-start .args .spot)) ready (e .0) (e .1) in
+    let counted = set (at-start .args .work .now .now) 2043 (madeIn (at-start .args .work .now .now) + 1) in
+    let free = keeps-yes _ (at-if2 .left) in
+    let space = space-open (at-start .args .spot) (e .1) (ready .open-in) in
+    let moved = ap (λ r. r .now) (at-kept-word .ensures .1) ∙ e .2 in
+    let name = ap (λ r. r .name) (at-kept-word .ensures .1) ∙ at-enter .ensures .1 in
+    let l = left-less (at-start .args .spot) (e .1) in
+    let k = let q : at-kept-word .result ≡ getD counted (placeIn (lent (at-start .args .table .now .now) (at-start .args .given .now)) (at-start .args .line .now .now) (at-start .args .node) (posIn (at-start .args .spot))) 0 = (rw (at-pos-of2 .ensures, e .2) at (at-kept-word .ensures .0)) in q in
+    let z = at-if3 .left in
+    let h = at-if4 .left in
+    let none = let q : getD counted (placeIn (lent (at-start .args .table .now .now) (at-start .args .given .now)) (at-start .args .line .now .now) (at-start .args .node) (posIn (at-start .args .spot))) 0 ≡ 0 = omega arith in q in
+    (omega (arith, at-start .pre .0), (rw (moved, pos-less (at-start .args .spot) (e .1)) opening, (space, ((λ k. free), (λ k. rw (moved, pos-less (at-start .args .spot) (e .1)) none)))))
+
+visit-returns-5 : (t : ℕ) → visit-lts.Need-returns-5 (visit-claims t) (visit-at t) visit.Post
+visit-returns-5 t c =
+    let at-start = c .before .before .before .before .before .before .before .before .before .before .before .before .before in
+    let at-enter = c .before .before .before .before .before .before .before .before .before .before .before .enter in
+    let at-if1 = c .before .before .before .before .before .before .before .before .before .before .if1 in
+    let at-if2 = c .before .before .before .before .before .before .before .before .if2 in
+    let at-kept-word = c .before .before .before .before .kept-word in
+    let at-apply = c .apply in
+    let ready = at-start .pre .1 in
+    let e = entered-open _ _ _ _ _ _ ready (at-enter .ensures .0) (at-if1 .left) in
+    let opening = starts-open (lent (at-start .args .table .now .now) (at-start .args .given .now)) (at-start .args .line .now .now) (at-start .args .work .now .now) (at-start .args .spot) (at-start .args .node) (posIn (at-start .args .spot)) ready (e .0) (e .1) in
+    let counted = set (at-start .args .work .now .now) 2043 (madeIn (at-start .args .work .now .now) + 1) in
+    let free = keeps-yes _ (at-if2 .left) in
+    let space = space-open (at-start .args .spot) (e .1) (ready .open-in) in
+    let moved = ap (λ r. r .now) (at-kept-word .ensures .1) ∙ e .2 in
+    let name = ap (λ r. r .name) (at-kept-word .ensures .1) ∙ at-enter .ensures .1 in
+    (opened (lent (at-start .args .table .now .now) (at-start .args .given .now)) (at-start .args .line .now .now) (at-start .args .work .now .now) (at-start .args .spot) (at-start .args .node) (posIn (at-start .args .spot)) ready (e .0) (e .1) _ _ (rw (moved, pos-less (at-start .args .spot) (e .1)) at (at-apply .ensures .0)), at-apply .ensures .1 ∙ name)
 
 visit-choice-visit-requires : (t : ℕ) → visit-choice-lts.Need-visit-requires (visit-choice-claims t) (visit-choice-at t) visit-choice.Post
 visit-choice-visit-requires t c κs =
@@ -1468,260 +1589,6 @@ visit-choice-returns-2 t c =
     let first = at-visit .ensures .0 in
     let next = at-visit2 .ensures .0 in
     (record { came = choice-second _ _ (ready .fit) visiting _ _ (first .came) _ (sym (at-end-of .ensures) ∙ at-if1 .left) (next .came); cells = omega (arith, first .cells, next .cells) }, at-visit2 .ensures .1 ∙ at-visit .ensures .1)
-
-visit-free-enter-requires : (t : ℕ) → visit-free-lts.Need-enter-requires (visit-free-claims t) (visit-free-at t) visit-free.Post
-visit-free-enter-requires t c κs =
-    let at-start = c .before in
-    let ready = at-start .pre .1 .0 in
-    let r = ready .words .room in (omega arith, ready .fit .allowance)
-
-visit-free-mul-answer : (t : ℕ) → visit-free-lts.Need-mul-answer (visit-free-claims t) (visit-free-at t) visit-free.Post
-visit-free-mul-answer t c =
-    let at-start = c .before .before .before in
-    let at-enter = c .before .enter in
-    let small = refused-small _ _ _ _ _ _ (at-start .pre .1 .0) (at-enter .ensures .0) in
-    omega (arith, small)
-
-visit-free-pos-of-requires : (t : ℕ) → visit-free-lts.Need-pos-of-requires (visit-free-claims t) (visit-free-at t) visit-free.Post
-visit-free-pos-of-requires t c κs = tt
-
-visit-free-add-answer : (t : ℕ) → visit-free-lts.Need-add-answer (visit-free-claims t) (visit-free-at t) visit-free.Post
-visit-free-add-answer t c =
-    let at-start = c .before .before .before .before in
-    let at-enter = c .before .before .enter in
-    let at-pos-of = c .pos-of in
-    let ready = at-start .pre .1 .0 in
-    let small = refused-small _ _ _ _ _ _ ready (at-enter .ensures .0) in
-    omega (arith, small, ready .pos-in, ready .fit .short, at-pos-of .ensures)
-
-visit-free-answer-requires : (t : ℕ) → visit-free-lts.Need-answer-requires (visit-free-claims t) (visit-free-at t) visit-free.Post
-visit-free-answer-requires t c κs = tt
-
-visit-free-returns : (t : ℕ) → visit-free-lts.Need-returns (visit-free-claims t) (visit-free-at t) visit-free.Post
-visit-free-returns t c =
-    let at-start = c .before .before .before .before .before in
-    let at-enter = c .before .before .before .enter in
-    let at-if1 = c .before .before .if1 in
-    let at-answer = c .answer in
-    let at-pos-of = c .before .pos-of in
-    let ready = at-start .pre .1 .0 in
-    (refused _ _ _ _ _ _ ready (at-enter .ensures .0) (at-if1 .taken) _ (at-answer .ensures .0) (at-answer .ensures .1 ∙ ap (λ p. at-enter .result * 4096 + p) (at-pos-of .ensures)), at-enter .ensures .1)
-
-visit-free-pos-of-requires-2 : (t : ℕ) → visit-free-lts.Need-pos-of-requires-2 (visit-free-claims t) (visit-free-at t) visit-free.Post
-visit-free-pos-of-requires-2 t c κs = tt
-
-visit-free-kept-word-requires : (t : ℕ) → visit-free-lts.Need-kept-word-requires (visit-free-claims t) (visit-free-at t) visit-free.Post
-visit-free-kept-word-requires t c κs =
-    let at-start = c .before .before .before .before .before .before in
-    let at-enter = c .before .before .before .before .enter in
-    let at-if1 = c .before .before .before .if1 in
-    let at-pos-of2 = c .before .before .pos-of2 in
-    let ready = at-start .pre .1 .0 in
-    let e = entered-open _ _ _ _ _ _ ready (at-enter .ensures .0) (at-if1 .left) in
-    let opening = starts-open (lent (at-start .args .table .now .now) (at-start .args .given .now)) (at-start .args .line .now .now) (at-start .args .work .now .now) (at-start .args .spot) (at-start .args .node) (posIn (at-start .args .spot)) ready (e .0) (e .1) in
-    let counted = set (at-start .args .work .now .now) 2043 (madeIn (at-start .args .work .now .now) + 1) in
-    let fit = ready .fit in
-    let room = roomy (lent (at-start .args .table .now .now) (at-start .args .given .now)) (at-start .args .line .now .now) counted (at-start .args .node) (posIn (at-start .args .spot)) fit (opening .words .room) (opening .node-in) (opening .pos-in) in
-    rw (at-pos-of2 .ensures, e .2) room
-
-visit-free-answer-requires-2 : (t : ℕ) → visit-free-lts.Need-answer-requires-2 (visit-free-claims t) (visit-free-at t) visit-free.Post
-visit-free-answer-requires-2 t c κs = tt
-
-visit-free-returns-2 : (t : ℕ) → visit-free-lts.Need-returns-2 (visit-free-claims t) (visit-free-at t) visit-free.Post
-visit-free-returns-2 t c =
-    let at-start = c .before .before .before .before .before .before .before .before .before in
-    let at-enter = c .before .before .before .before .before .before .before .enter in
-    let at-if1 = c .before .before .before .before .before .before .if1 in
-    let at-kept-word = c .before .before .kept-word in
-    let at-pos-of2 = c .before .before .before .before .before .pos-of2 in
-    let at-if2 = c .before .if2 in
-    let at-answer2 = c .answer2 in
-    let ready = at-start .pre .1 .0 in
-    let e = entered-open _ _ _ _ _ _ ready (at-enter .ensures .0) (at-if1 .left) in
-    let opening = starts-open (lent (at-start .args .table .now .now) (at-start .args .given .now)) (at-start .args .line .now .now) (at-start .args .work .now .now) (at-start .args .spot) (at-start .args .node) (posIn (at-start .args .spot)) ready (e .0) (e .1) in
-    let counted = set (at-start .args .work .now .now) 2043 (madeIn (at-start .args .work .now .now) + 1) in
-    let space = space-open (at-start .args .spot) (e .1) (ready .open-in) in
-    let moved = ap (λ r. r .now) (at-kept-word .ensures .1) ∙ e .2 in
-    let name = ap (λ r. r .name) (at-kept-word .ensures .1) ∙ at-enter .ensures .1 in
-    let word = let q : getD counted (placeIn (lent (at-start .args .table .now .now) (at-start .args .given .now)) (at-start .args .line .now .now) (at-start .args .node) (posIn (at-start .args .spot))) 0 ≡ 1 = sym (rw (at-pos-of2 .ensures, e .2) at (at-kept-word .ensures .0)) ∙ at-if2 .taken in q in
-    (opened (lent (at-start .args .table .now .now) (at-start .args .given .now)) (at-start .args .line .now .now) (at-start .args .work .now .now) (at-start .args .spot) (at-start .args .node) (posIn (at-start .args .spot)) ready (e .0) (e .1) _ _ (kept-failure (lent (at-start .args .table .now .now) (at-start .args .given .now)) (at-start .args .line .now .now) counted ((at-start .args .spot) - 1) (at-start .args .node) (posIn (at-start .args .spot)) opening space (at-start .pre .1 .1) _ moved _ word (at-answer2 .ensures .0) (at-answer2 .ensures .1)), name)
-
-visit-free-kept-at-requires : (t : ℕ) → visit-free-lts.Need-kept-at-requires (visit-free-claims t) (visit-free-at t) visit-free.Post
-visit-free-kept-at-requires t c κs =
-    let at-start = c .before .before .before .before .before .before .before .before .before .before in
-    let at-enter = c .before .before .before .before .before .before .before .before .enter in
-    let at-if1 = c .before .before .before .before .before .before .before .if1 in
-    let at-pos-of2 = c .before .before .before .before .before .before .pos-of2 in
-    let ready = at-start .pre .1 .0 in
-    let e = entered-open _ _ _ _ _ _ ready (at-enter .ensures .0) (at-if1 .left) in
-    let opening = starts-open (lent (at-start .args .table .now .now) (at-start .args .given .now)) (at-start .args .line .now .now) (at-start .args .work .now .now) (at-start .args .spot) (at-start .args .node) (posIn (at-start .args .spot)) ready (e .0) (e .1) in
-    let counted = set (at-start .args .work .now .now) 2043 (madeIn (at-start .args .work .now .now) + 1) in
-    let fit = ready .fit in
-    let room = roomy (lent (at-start .args .table .now .now) (at-start .args .given .now)) (at-start .args .line .now .now) counted (at-start .args .node) (posIn (at-start .args .spot)) fit (opening .words .room) (opening .node-in) (opening .pos-in) in
-    (room .short, (room .allowance, (room .node-in, rw (at-pos-of2 .ensures) (room .pos-in))))
-
-visit-free-add-list : (t : ℕ) → visit-free-lts.Need-add-list (visit-free-claims t) (visit-free-at t) visit-free.Post
-visit-free-add-list t c =
-    let at-start = c .before .before .before .before .before .before .before .before .before .before .before in
-    let at-enter = c .before .before .before .before .before .before .before .before .before .enter in
-    let at-if1 = c .before .before .before .before .before .before .before .before .if1 in
-    let at-kept-at = c .kept-at in
-    let at-pos-of2 = c .before .before .before .before .before .before .before .pos-of2 in
-    let ready = at-start .pre .1 .0 in
-    let e = entered-open _ _ _ _ _ _ ready (at-enter .ensures .0) (at-if1 .left) in
-    let opening = starts-open (lent (at-start .args .table .now .now) (at-start .args .given .now)) (at-start .args .line .now .now) (at-start .args .work .now .now) (at-start .args .spot) (at-start .args .node) (posIn (at-start .args .spot)) ready (e .0) (e .1) in
-    let counted = set (at-start .args .work .now .now) 2043 (madeIn (at-start .args .work .now .now) + 1) in
-    let fit = ready .fit in
-    let p = pairs-few (lent (at-start .args .table .now .now) (at-start .args .given .now)) (at-start .args .line .now .now) fit in
-    let z = pair-in (lent (at-start .args .table .now .now) (at-start .args .given .now)) (at-start .args .line .now .now) (at-start .args .node) (posIn (at-start .args .spot)) (ready .node-in) (ready .pos-in) in
-    omega (arith, fit .allowance, at-kept-at .ensures, at-pos-of2 .ensures)
-
-visit-free-mul-list : (t : ℕ) → visit-free-lts.Need-mul-list (visit-free-claims t) (visit-free-at t) visit-free.Post
-visit-free-mul-list t c =
-    let at-start = c .before .before .before .before .before .before .before .before .before .before .before in
-    let at-enter = c .before .before .before .before .before .before .before .before .before .enter in
-    let at-if1 = c .before .before .before .before .before .before .before .before .if1 in
-    let at-kept-at = c .kept-at in
-    let at-pos-of2 = c .before .before .before .before .before .before .before .pos-of2 in
-    let ready = at-start .pre .1 .0 in
-    let e = entered-open _ _ _ _ _ _ ready (at-enter .ensures .0) (at-if1 .left) in
-    let opening = starts-open (lent (at-start .args .table .now .now) (at-start .args .given .now)) (at-start .args .line .now .now) (at-start .args .work .now .now) (at-start .args .spot) (at-start .args .node) (posIn (at-start .args .spot)) ready (e .0) (e .1) in
-    let counted = set (at-start .args .work .now .now) 2043 (madeIn (at-start .args .work .now .now) + 1) in
-    let fit = ready .fit in
-    let p = pairs-few (lent (at-start .args .table .now .now) (at-start .args .given .now)) (at-start .args .line .now .now) fit in
-    let z = pair-in (lent (at-start .args .table .now .now) (at-start .args .given .now)) (at-start .args .line .now .now) (at-start .args .node) (posIn (at-start .args .spot)) (ready .node-in) (ready .pos-in) in
-    omega (arith, fit .allowance, at-kept-at .ensures, at-pos-of2 .ensures)
-
-visit-free-index-1-list : (t : ℕ) → visit-free-lts.Need-index-1-list (visit-free-claims t) (visit-free-at t) visit-free.Post
-visit-free-index-1-list t c =
-    let at-start = c .before .before .before .before .before .before .before .before .before .before .before in
-    let at-enter = c .before .before .before .before .before .before .before .before .before .enter in
-    let at-if1 = c .before .before .before .before .before .before .before .before .if1 in
-    let at-kept-word = c .before .before .before .before .kept-word in
-    let at-kept-at = c .kept-at in
-    let at-pos-of2 = c .before .before .before .before .before .before .before .pos-of2 in
-    let ready = at-start .pre .1 .0 in
-    let e = entered-open _ _ _ _ _ _ ready (at-enter .ensures .0) (at-if1 .left) in
-    let opening = starts-open (lent (at-start .args .table .now .now) (at-start .args .given .now)) (at-start .args .line .now .now) (at-start .args .work .now .now) (at-start .args .spot) (at-start .args .node) (posIn (at-start .args .spot)) ready (e .0) (e .1) in
-    let counted = set (at-start .args .work .now .now) 2043 (madeIn (at-start .args .work .now .now) + 1) in
-    let fit = ready .fit in
-    let room = roomy (lent (at-start .args .table .now .now) (at-start .args .given .now)) (at-start .args .line .now .now) counted (at-start .args .node) (posIn (at-start .args .spot)) fit (opening .words .room) (opening .node-in) (opening .pos-in) in
-    let space = space-open (at-start .args .spot) (e .1) (ready .open-in) in
-    let moved = ap (λ r. r .now) (at-kept-word .ensures .1) ∙ e .2 in
-    let name = ap (λ r. r .name) (at-kept-word .ensures .1) ∙ at-enter .ensures .1 in
-    let r = room .room in
-    let k = at-kept-at .ensures in
-    let p = at-pos-of2 .ensures in
-    rw moved (omega arith)
-
-visit-free-sub-answer : (t : ℕ) → visit-free-lts.Need-sub-answer (visit-free-claims t) (visit-free-at t) visit-free.Post
-visit-free-sub-answer t c =
-    let at-if3 = c .before .before .before .if3 in
-    let h = at-if3 .taken in omega arith
-
-visit-free-answer-requires-3 : (t : ℕ) → visit-free-lts.Need-answer-requires-3 (visit-free-claims t) (visit-free-at t) visit-free.Post
-visit-free-answer-requires-3 t c κs = tt
-
-visit-free-returns-3 : (t : ℕ) → visit-free-lts.Need-returns-3 (visit-free-claims t) (visit-free-at t) visit-free.Post
-visit-free-returns-3 t c =
-    let at-start = c .before .before .before .before .before .before .before .before .before .before .before .before .before in
-    let at-enter = c .before .before .before .before .before .before .before .before .before .before .before .enter in
-    let at-if1 = c .before .before .before .before .before .before .before .before .before .before .if1 in
-    let at-kept-word = c .before .before .before .before .before .before .kept-word in
-    let at-pos-of2 = c .before .before .before .before .before .before .before .before .before .pos-of2 in
-    let at-if3 = c .before .before .before .before .if3 in
-    let at-kept-at = c .before .before .kept-at in
-    let at-answer3 = c .answer3 in
-    let ready = at-start .pre .1 .0 in
-    let e = entered-open _ _ _ _ _ _ ready (at-enter .ensures .0) (at-if1 .left) in
-    let opening = starts-open (lent (at-start .args .table .now .now) (at-start .args .given .now)) (at-start .args .line .now .now) (at-start .args .work .now .now) (at-start .args .spot) (at-start .args .node) (posIn (at-start .args .spot)) ready (e .0) (e .1) in
-    let counted = set (at-start .args .work .now .now) 2043 (madeIn (at-start .args .work .now .now) + 1) in
-    let space = space-open (at-start .args .spot) (e .1) (ready .open-in) in
-    let moved = ap (λ r. r .now) (at-kept-word .ensures .1) ∙ e .2 in
-    let name = ap (λ r. r .name) (at-kept-word .ensures .1) ∙ at-enter .ensures .1 in
-    let k = let q : at-kept-word .result ≡ getD counted (placeIn (lent (at-start .args .table .now .now) (at-start .args .given .now)) (at-start .args .line .now .now) (at-start .args .node) (posIn (at-start .args .spot))) 0 = (rw (at-pos-of2 .ensures, e .2) at (at-kept-word .ensures .0)) in q in
-    let h = at-if3 .taken in
-    let place = let q : at-kept-at .result ≡ placeIn (lent (at-start .args .table .now .now) (at-start .args .given .now)) (at-start .args .line .now .now) (at-start .args .node) (posIn (at-start .args .spot)) = rw (← at-pos-of2 .ensures) (at-kept-at .ensures) in q in (
-      opened (lent (at-start .args .table .now .now) (at-start .args .given .now)) (at-start .args .line .now .now) (at-start .args .work .now .now) (at-start .args .spot) (at-start .args .node) (posIn (at-start .args .spot)) ready (e .0) (e .1) _ _
-          (kept-match (lent (at-start .args .table .now .now) (at-start .args .given .now)) (at-start .args .line .now .now) counted ((at-start .args .spot) - 1) (at-start .args .node) (posIn (at-start .args .spot)) opening space (at-start .pre .1 .1) _ moved _ (omega arith) (at-answer3 .ensures .0 ∙ ap (λ n. n - 2) k)
-          (at-answer3 .ensures .1 ∙ ap (λ n. getD (at-kept-word .last .1 .1 .0 .now) (n + 1) 0) place ∙ ap (λ l. getD l (placeIn (lent (at-start .args .table .now .now) (at-start .args .given .now)) (at-start .args .line .now .now) (at-start .args .node) (posIn (at-start .args .spot)) + 1) 0) moved)),
-      name,
-    )
-
-visit-free-sub-apply : (t : ℕ) → visit-free-lts.Need-sub-apply (visit-free-claims t) (visit-free-at t) visit-free.Post
-visit-free-sub-apply t c =
-    let at-start = c .before .before .before .before .before .before .before .before .before .before in
-    let at-enter = c .before .before .before .before .before .before .before .before .enter in
-    let at-if1 = c .before .before .before .before .before .before .before .if1 in
-    let e = entered-open _ _ _ _ _ _ (at-start .pre .1 .0) (at-enter .ensures .0) (at-if1 .left) in
-    let some = e .1 in omega (arith, some)
-
-visit-free-apply-requires : (t : ℕ) → visit-free-lts.Need-apply-requires (visit-free-claims t) (visit-free-at t) visit-free.Post
-visit-free-apply-requires t c κs =
-    let at-start = c .before .before .before .before .before .before .before .before .before .before in
-    let at-enter = c .before .before .before .before .before .before .before .before .enter in
-    let at-if1 = c .before .before .before .before .before .before .before .if1 in
-    let at-kept-word = c .before .before .before .kept-word in
-    let ready = at-start .pre .1 .0 in
-    let e = entered-open _ _ _ _ _ _ ready (at-enter .ensures .0) (at-if1 .left) in
-    let opening = starts-open (lent (at-start .args .table .now .now) (at-start .args .given .now)) (at-start .args .line .now .now) (at-start .args .work .now .now) (at-start .args .spot) (at-start .args .node) (posIn (at-start .args .spot)) ready (e .0) (e .1) in
-    let counted = set (at-start .args .work .now .now) 2043 (madeIn (at-start .args .work .now .now) + 1) in
-    let space = space-open (at-start .args .spot) (e .1) (ready .open-in) in
-    let moved = ap (λ r. r .now) (at-kept-word .ensures .1) ∙ e .2 in
-    let name = ap (λ r. r .name) (at-kept-word .ensures .1) ∙ at-enter .ensures .1 in
-    let l = left-less (at-start .args .spot) (e .1) in
-    (omega (arith, at-start .pre .0), (rw (moved, pos-less (at-start .args .spot) (e .1)) opening, (space, λ k. at-start .pre .1 .1)))
-
-visit-free-slice-aggregate-keep : (t : ℕ) → visit-free-lts.Need-slice-aggregate-keep (visit-free-claims t) (visit-free-at t) visit-free.Post
-visit-free-slice-aggregate-keep t c = refl
-
-visit-free-end-of-requires : (t : ℕ) → visit-free-lts.Need-end-of-requires (visit-free-claims t) (visit-free-at t) visit-free.Post
-visit-free-end-of-requires t c κs = tt
-
-visit-free-list-of-requires : (t : ℕ) → visit-free-lts.Need-list-of-requires (visit-free-claims t) (visit-free-at t) visit-free.Post
-visit-free-list-of-requires t c κs = tt
-
-visit-free-keep-requires : (t : ℕ) → visit-free-lts.Need-keep-requires (visit-free-claims t) (visit-free-at t) visit-free.Post
-visit-free-keep-requires t c κs =
-    let at-start = c .before .before .before .before .before .before .before .before .before .before .before .before .before .before .before in
-    let at-enter = c .before .before .before .before .before .before .before .before .before .before .before .before .before .enter in
-    let at-if1 = c .before .before .before .before .before .before .before .before .before .before .before .before .if1 in
-    let at-end-of = c .before .end-of in
-    let at-apply = c .before .before .before .before .apply in
-    let at-pos-of2 = c .before .before .before .before .before .before .before .before .before .before .before .pos-of2 in
-    let ready = at-start .pre .1 .0 in
-    let e = entered-open _ _ _ _ _ _ ready (at-enter .ensures .0) (at-if1 .left) in
-    let opening = starts-open (lent (at-start .args .table .now .now) (at-start .args .given .now)) (at-start .args .line .now .now) (at-start .args .work .now .now) (at-start .args .spot) (at-start .args .node) (posIn (at-start .args .spot)) ready (e .0) (e .1) in
-    let counted = set (at-start .args .work .now .now) 2043 (madeIn (at-start .args .work .now .now) + 1) in
-    let z = at-end-of .ensures in
-    let m = at-apply .ensures .0 .came .end-most in
-    (rw (at-pos-of2 .ensures) (roomy (lent (at-start .args .table .now .now) (at-start .args .given .now)) (at-start .args .line .now .now) _ (at-start .args .node) (posIn (at-start .args .spot)) (ready .fit) (at-apply .ensures .0 .came .words .room) (ready .node-in) (ready .pos-in)), omega arith)
-
-visit-free-returns-4 : (t : ℕ) → visit-free-lts.Need-returns-4 (visit-free-claims t) (visit-free-at t) visit-free.Post
-visit-free-returns-4 t c =
-    let at-start = c .before .before .before .before .before .before .before .before .before .before .before .before .before .before .before .before in
-    let at-enter = c .before .before .before .before .before .before .before .before .before .before .before .before .before .before .enter in
-    let at-if1 = c .before .before .before .before .before .before .before .before .before .before .before .before .before .if1 in
-    let at-kept-word = c .before .before .before .before .before .before .before .before .before .kept-word in
-    let at-if2 = c .before .before .before .before .before .before .before .before .if2 in
-    let at-if3 = c .before .before .before .before .before .before .before .if3 in
-    let at-pos-of2 = c .before .before .before .before .before .before .before .before .before .before .before .before .pos-of2 in
-    let at-apply = c .before .before .before .before .before .apply in
-    let at-end-of = c .before .before .end-of in
-    let at-list-of = c .before .list-of in
-    let at-keep = c .keep in
-    let ready = at-start .pre .1 .0 in
-    let e = entered-open _ _ _ _ _ _ ready (at-enter .ensures .0) (at-if1 .left) in
-    let opening = starts-open (lent (at-start .args .table .now .now) (at-start .args .given .now)) (at-start .args .line .now .now) (at-start .args .work .now .now) (at-start .args .spot) (at-start .args .node) (posIn (at-start .args .spot)) ready (e .0) (e .1) in
-    let counted = set (at-start .args .work .now .now) 2043 (madeIn (at-start .args .work .now .now) + 1) in
-    let space = space-open (at-start .args .spot) (e .1) (ready .open-in) in
-    let moved = ap (λ r. r .now) (at-kept-word .ensures .1) ∙ e .2 in
-    let name = ap (λ r. r .name) (at-kept-word .ensures .1) ∙ at-enter .ensures .1 in
-    let z = at-if2 .left in
-    let h = at-if3 .left in
-    let k = let q : at-kept-word .result ≡ getD counted (placeIn (lent (at-start .args .table .now .now) (at-start .args .given .now)) (at-start .args .line .now .now) (at-start .args .node) (posIn (at-start .args .spot))) 0 = (rw (at-pos-of2 .ensures, e .2) at (at-kept-word .ensures .0)) in q in
-    let applied = rw (pos-less (at-start .args .spot) (e .1)) at (at-apply .ensures .0) in
-    (opened (lent (at-start .args .table .now .now) (at-start .args .given .now)) (at-start .args .line .now .now) (at-start .args .work .now .now) (at-start .args .spot) (at-start .args .node) (posIn (at-start .args .spot)) ready (e .0) (e .1) _ _ (open-applied (lent (at-start .args .table .now .now) (at-start .args .given .now)) (at-start .args .line .now .now) counted ((at-start .args .spot) - 1) (at-start .args .node) (posIn (at-start .args .spot)) opening space (at-start .pre .1 .1) _ moved _ (omega arith) _ _ applied (rw (at-pos-of2 .ensures, at-end-of .ensures, at-list-of .ensures) at (at-keep .ensures))), at-apply .ensures .1 ∙ name)
 
 visit-not-visit-requires : (t : ℕ) → visit-not-lts.Need-visit-requires (visit-not-claims t) (visit-not-at t) visit-not.Post
 visit-not-visit-requires t c κs =
@@ -1833,11 +1700,12 @@ visit-open-returns t c =
     let at-range-end = c .before .range-end in
     let ready = at-start .pre .1 .0 in
     let fit = ready .fit in (
-      record {
-        came = came-at _ _ (fit .short) _ _ _ _ (at-answer .ensures .0) (at-answer .ensures .1) refl refl
-            (apply-range _ _ fit _ _ _ (ready .node-in) (ready .words) (ready .made-in) (sym (at-kind-of .ensures .0) ∙ at-if1 .taken) _ _ _ (at-a-of .ensures .0) (at-b-of .ensures .0) (rw (at-pos-of .ensures) at (at-range-end .ensures)));
-        cells = omega arith;
-      },
+      plain-opens (lent (at-start .args .table .now .now) (at-start .args .given .now)) (at-start .args .line .now .now) (at-start .args .work .now .now) (at-start .args .spot) (at-start .args .node) (posIn (at-start .args .spot)) ready (at-start .pre .1 .1 .1) _ _
+          (record {
+            came = came-at _ _ (fit .short) _ _ _ _ (at-answer .ensures .0) (at-answer .ensures .1) refl refl
+                (apply-range _ _ fit _ _ _ (ready .node-in) (ready .words) (ready .made-in) (sym (at-kind-of .ensures .0) ∙ at-if1 .taken) _ _ _ (at-a-of .ensures .0) (at-b-of .ensures .0) (rw (at-pos-of .ensures) at (at-range-end .ensures)));
+            cells = omega arith;
+          }),
       refl,
     )
 
@@ -1867,26 +1735,130 @@ visit-open-returns-2 t c =
     let at-if2 = c .before .before .before .before .if2 in
     let at-a-of2 = c .before .a-of2 in
     let at-use-rule = c .use-rule in
-    let ready = at-start .pre .1 .0 in
-    let fit = ready .fit in (
-      record {
-        came = apply-rule _ _ fit _ _ _ (ready .node-in) (sym (at-kind-of .ensures .0) ∙ at-if2 .taken) _ (at-a-of2 .ensures .0) (at-use-rule .ensures .0 .came);
-        cells = at-use-rule .ensures .0 .cells;
-      },
+    let ready = at-start .pre .1 .0 in (
+      plain-opens (lent (at-start .args .table .now .now) (at-start .args .given .now)) (at-start .args .line .now .now) (at-start .args .work .now .now) (at-start .args .spot) (at-start .args .node) (posIn (at-start .args .spot)) ready (at-start .pre .1 .1 .1) _ _
+          (record {
+            came = apply-rule _ _ (ready .fit) _ _ _ (ready .node-in) (sym (at-kind-of .ensures .0) ∙ at-if2 .taken) _ (at-a-of2 .ensures .0) (at-use-rule .ensures .0 .came);
+            cells = at-use-rule .ensures .0 .cells;
+          }),
       at-use-rule .ensures .1,
     )
 
-visit-open-apply-requires : (t : ℕ) → visit-open-lts.Need-apply-requires (visit-open-claims t) (visit-open-at t) visit-open.Post
-visit-open-apply-requires t c κs =
-    let at-start = c .before .before .before .before .before in
-    let at-if2 = c .before .if2 in
-    let at-kind-of = c .before .before .before .kind-of in
-    (omega (arith, at-start .pre .0), (at-start .pre .1 .0, (at-start .pre .1 .1 .0, λ e. absurd (at-if2 .left (at-kind-of .ensures .0 ∙ e)))))
+visit-open-visit-pair-requires : (t : ℕ) → visit-open-lts.Need-visit-pair-requires (visit-open-claims t) (visit-open-at t) visit-open.Post
+visit-open-visit-pair-requires t c κs =
+    let at-start = c .before .before .before .before .before .before in
+    let at-kind-of = c .before .before .before .before .kind-of in
+    let at-if3 = c .before .if3 in
+    (omega (arith, at-start .pre .0), (at-start .pre .1 .0, (at-start .pre .1 .1 .0, inl (sym (at-kind-of .ensures .0) ∙ at-if3 .taken))))
 
 visit-open-returns-3 : (t : ℕ) → visit-open-lts.Need-returns-3 (visit-open-claims t) (visit-open-at t) visit-open.Post
 visit-open-returns-3 t c =
+    let at-start = c .before .before .before .before .before .before .before in
+    let at-visit-pair = c .visit-pair in
+    (plain-opens (lent (at-start .args .table .now .now) (at-start .args .given .now)) (at-start .args .line .now .now) (at-start .args .work .now .now) (at-start .args .spot) (at-start .args .node) (posIn (at-start .args .spot)) (at-start .pre .1 .0) (at-start .pre .1 .1 .1) _ _ (at-visit-pair .ensures .0), at-visit-pair .ensures .1)
+
+visit-open-visit-pair-requires-2 : (t : ℕ) → visit-open-lts.Need-visit-pair-requires-2 (visit-open-claims t) (visit-open-at t) visit-open.Post
+visit-open-visit-pair-requires-2 t c κs =
+    let at-start = c .before .before .before .before .before .before .before in
+    let at-kind-of = c .before .before .before .before .before .kind-of in
+    let at-if4 = c .before .if4 in
+    (omega (arith, at-start .pre .0), (at-start .pre .1 .0, (at-start .pre .1 .1 .0, inr (sym (at-kind-of .ensures .0) ∙ at-if4 .taken))))
+
+visit-open-returns-4 : (t : ℕ) → visit-open-lts.Need-returns-4 (visit-open-claims t) (visit-open-at t) visit-open.Post
+visit-open-returns-4 t c =
+    let at-start = c .before .before .before .before .before .before .before .before in
+    let at-visit-pair2 = c .visit-pair2 in
+    (plain-opens (lent (at-start .args .table .now .now) (at-start .args .given .now)) (at-start .args .line .now .now) (at-start .args .work .now .now) (at-start .args .spot) (at-start .args .node) (posIn (at-start .args .spot)) (at-start .pre .1 .0) (at-start .pre .1 .1 .1) _ _ (at-visit-pair2 .ensures .0), at-visit-pair2 .ensures .1)
+
+visit-open-apply-requires : (t : ℕ) → visit-open-lts.Need-apply-requires (visit-open-claims t) (visit-open-at t) visit-open.Post
+visit-open-apply-requires t c κs =
+    let at-start = c .before .before .before .before .before .before .before in
+    let at-if2 = c .before .before .before .if2 in
+    let at-kind-of = c .before .before .before .before .before .kind-of in
+    (omega (arith, at-start .pre .0), (at-start .pre .1 .0, (at-start .pre .1 .1 .0, ((λ e. absurd (at-if2 .left (at-kind-of .ensures .0 ∙ e))), (λ k. absurd (not-both k (at-start .pre .1 .1 .1)))))))
+
+visit-open-returns-5 : (t : ℕ) → visit-open-lts.Need-returns-5 (visit-open-claims t) (visit-open-at t) visit-open.Post
+visit-open-returns-5 t c =
     let at-apply = c .apply in
     (at-apply .ensures .0, at-apply .ensures .1)
+
+visit-pair-a-of-requires : (t : ℕ) → visit-pair-lts.Need-a-of-requires (visit-pair-claims t) (visit-pair-at t) visit-pair.Post
+visit-pair-a-of-requires t c κs =
+    let at-start = c .before in
+    let ready = at-start .pre .1 .0 in
+    (ready .fit .accepted, (ready .node-in, ready .fit .first))
+
+visit-pair-b-of-requires : (t : ℕ) → visit-pair-lts.Need-b-of-requires (visit-pair-claims t) (visit-pair-at t) visit-pair.Post
+visit-pair-b-of-requires t c κs =
+    let at-start = c .before .before .before in
+    let ready = at-start .pre .1 .0 in
+    (ready .fit .accepted, (ready .node-in, ready .fit .first))
+
+visit-pair-kind-of-requires : (t : ℕ) → visit-pair-lts.Need-kind-of-requires (visit-pair-claims t) (visit-pair-at t) visit-pair.Post
+visit-pair-kind-of-requires t c κs =
+    let at-start = c .before .before .before .before .before in
+    let ready = at-start .pre .1 .0 in
+    (ready .fit .accepted, (ready .node-in, ready .fit .first))
+
+visit-pair-visit-sequence-requires : (t : ℕ) → visit-pair-lts.Need-visit-sequence-requires (visit-pair-claims t) (visit-pair-at t) visit-pair.Post
+visit-pair-visit-sequence-requires t c κs =
+    let at-start = c .before .before .before .before .before .before .before .before in
+    let at-a-of = c .before .before .before .before .before .before .a-of in
+    let at-b-of = c .before .before .before .before .b-of in
+    let at-kind-of = c .before .before .kind-of in
+    let at-if1 = c .before .if1 in
+    let ready = at-start .pre .1 .0 in
+    let e = at-a-of .ensures .0 in
+    let f = at-b-of .ensures .0 in
+    let k = sequence-children _ _ (ready .fit) (at-start .args .node) (ready .node-in) (sym (at-kind-of .ensures .0) ∙ at-if1 .taken) in
+    (omega (arith, at-start .pre .0), (ready-at _ ready (omega arith), (at-start .pre .1 .1 .0, omega arith)))
+
+visit-pair-returns : (t : ℕ) → visit-pair-lts.Need-returns (visit-pair-claims t) (visit-pair-at t) visit-pair.Post
+visit-pair-returns t c =
+    let at-start = c .before .before .before .before .before .before .before .before .before in
+    let at-kind-of = c .before .before .before .kind-of in
+    let at-if1 = c .before .before .if1 in
+    let at-a-of = c .before .before .before .before .before .before .before .a-of in
+    let at-b-of = c .before .before .before .before .before .b-of in
+    let at-visit-sequence = c .visit-sequence in
+    let ready = at-start .pre .1 .0 in (
+      record {
+        came = apply-sequence _ _ (ready .fit) _ _ _ (ready .node-in) (sym (at-kind-of .ensures .0) ∙ at-if1 .taken) _ _ (at-a-of .ensures .0) (at-b-of .ensures .0) (at-visit-sequence .ensures .0 .came);
+        cells = at-visit-sequence .ensures .0 .cells;
+      },
+      at-visit-sequence .ensures .1,
+    )
+
+visit-pair-visit-choice-requires : (t : ℕ) → visit-pair-lts.Need-visit-choice-requires (visit-pair-claims t) (visit-pair-at t) visit-pair.Post
+visit-pair-visit-choice-requires t c κs =
+    let at-start = c .before .before .before .before .before .before .before .before in
+    let at-a-of = c .before .before .before .before .before .before .a-of in
+    let at-b-of = c .before .before .before .before .b-of in
+    let at-if1 = c .before .if1 in
+    let at-kind-of = c .before .before .kind-of in
+    let ready = at-start .pre .1 .0 in
+    let e = at-a-of .ensures .0 in
+    let f = at-b-of .ensures .0 in
+    let four = ⊎-elim (λ three. absurd (at-if1 .left (at-kind-of .ensures .0 ∙ three))) (λ four. four) (at-start .pre .1 .1 .1) in
+    let k = choice-children _ _ (ready .fit) (at-start .args .node) (ready .node-in) four in
+    (omega (arith, at-start .pre .0), (ready-at _ ready (omega arith), (at-start .pre .1 .1 .0, omega arith)))
+
+visit-pair-returns-2 : (t : ℕ) → visit-pair-lts.Need-returns-2 (visit-pair-claims t) (visit-pair-at t) visit-pair.Post
+visit-pair-returns-2 t c =
+    let at-start = c .before .before .before .before .before .before .before .before .before in
+    let at-if1 = c .before .before .if1 in
+    let at-kind-of = c .before .before .before .kind-of in
+    let at-a-of = c .before .before .before .before .before .before .before .a-of in
+    let at-b-of = c .before .before .before .before .before .b-of in
+    let at-visit-choice = c .visit-choice in
+    let ready = at-start .pre .1 .0 in
+    let four = ⊎-elim (λ three. absurd (at-if1 .left (at-kind-of .ensures .0 ∙ three))) (λ four. four) (at-start .pre .1 .1 .1) in (
+      record {
+        came = apply-choice _ _ (ready .fit) _ _ _ (ready .node-in) four _ _ (at-a-of .ensures .0) (at-b-of .ensures .0) (at-visit-choice .ensures .0 .came);
+        cells = at-visit-choice .ensures .0 .cells;
+      },
+      at-visit-choice .ensures .1,
+    )
 
 visit-repetition-pos-of-requires : (t : ℕ) → visit-repetition-lts.Need-pos-of-requires (visit-repetition-claims t) (visit-repetition-at t) visit-repetition.Post
 visit-repetition-pos-of-requires t c κs = tt
@@ -2156,9 +2128,9 @@ visit-sequence-returns-3 t c =
       same,
     )
 
-pub +apply+use-free+use-live+use-rule+visit+visit-choice+visit-free+visit-not+visit-open+visit-repetition+visit-sequence-spec :
+pub +apply+use-free+use-live+use-rule+visit+visit-choice+visit-not+visit-open+visit-pair+visit-repetition+visit-sequence-spec :
     {M : Type 1} → statement M
-+apply+use-free+use-live+use-rule+visit+visit-choice+visit-free+visit-not+visit-open+visit-repetition+visit-sequence-spec =
++apply+use-free+use-live+use-rule+visit+visit-choice+visit-not+visit-open+visit-pair+visit-repetition+visit-sequence-spec =
     close
     μ-apply
     μ-use-free
@@ -2166,9 +2138,9 @@ pub +apply+use-free+use-live+use-rule+visit+visit-choice+visit-free+visit-not+vi
     μ-use-rule
     μ-visit
     μ-visit-choice
-    μ-visit-free
     μ-visit-not
     μ-visit-open
+    μ-visit-pair
     μ-visit-repetition
     μ-visit-sequence
     (λ t. apply-lts.spec (apply-claims t)
@@ -2184,32 +2156,28 @@ pub +apply+use-free+use-live+use-rule+visit+visit-choice+visit-free+visit-not+vi
     (apply-answer-requires-2 t)
     (apply-a-of-requires-2 t)
     (apply-use-free-requires t)
+    (apply-visit-pair-requires t)
+    (apply-visit-pair-requires-2 t)
     (apply-a-of-requires-3 t)
-    (apply-b-of-requires-2 t)
-    (apply-visit-sequence-requires t)
-    (apply-a-of-requires-4 t)
-    (apply-b-of-requires-3 t)
-    (apply-visit-choice-requires t)
-    (apply-a-of-requires-5 t)
     (apply-visit-not-requires t)
-    (apply-a-of-requires-6 t)
+    (apply-a-of-requires-4 t)
     (apply-visit-repetition-requires t)
     (apply-pos-of-requires-3 t)
     (apply-answer-requires-3 t)
+    (apply-element-copy-out-if1 t)
     (apply-returns t)
-    (apply-returns-2 t)
-    (apply-returns-3 t)
-    (apply-returns-4 t)
-    (apply-returns-5 t)
-    (apply-returns-6 t)
-    (apply-returns-7 t)
-    (apply-returns-8 t))
+    (apply-slice-aggregate-keep t)
+    (apply-pos-of-requires-4 t)
+    (apply-end-of-requires t)
+    (apply-list-of-requires t)
+    (apply-keep-requires t)
+    (apply-returns-2 t))
     (λ t. use-free-lts.spec (use-free-claims t)
     (use-free-at t)
     use-free.Post
     (use-free-pos-of-requires t)
     (use-free-root-of-requires t)
-    (use-free-visit-free-requires t)
+    (use-free-visit-requires t)
     (use-free-end-of-requires t)
     (use-free-returns t)
     (use-free-slice-aggregate-planted t)
@@ -2278,18 +2246,30 @@ pub +apply+use-free+use-live+use-rule+visit+visit-choice+visit-free+visit-not+vi
     (λ t. visit-lts.spec (visit-claims t)
     (visit-at t)
     visit.Post
-    (visit-element-copy-out-if1 t)
-    (visit-visit-free-requires t)
-    (visit-returns t)
     (visit-enter-requires t)
     (visit-mul-answer t)
     (visit-pos-of-requires t)
     (visit-add-answer t)
     (visit-answer-requires t)
-    (visit-returns-2 t)
+    (visit-returns t)
+    (visit-element-copy-out-if2 t)
     (visit-sub-visit-open t)
     (visit-visit-open-requires t)
-    (visit-returns-3 t))
+    (visit-returns-2 t)
+    (visit-pos-of-requires-2 t)
+    (visit-kept-word-requires t)
+    (visit-answer-requires-2 t)
+    (visit-returns-3 t)
+    (visit-kept-at-requires t)
+    (visit-add-list t)
+    (visit-mul-list t)
+    (visit-index-1-list t)
+    (visit-sub-answer t)
+    (visit-answer-requires-3 t)
+    (visit-returns-4 t)
+    (visit-sub-apply t)
+    (visit-apply-requires t)
+    (visit-returns-5 t))
     (λ t. visit-choice-lts.spec (visit-choice-claims t)
     (visit-choice-at t)
     visit-choice.Post
@@ -2298,33 +2278,6 @@ pub +apply+use-free+use-live+use-rule+visit+visit-choice+visit-free+visit-not+vi
     (visit-choice-returns t)
     (visit-choice-visit-requires-2 t)
     (visit-choice-returns-2 t))
-    (λ t. visit-free-lts.spec (visit-free-claims t)
-    (visit-free-at t)
-    visit-free.Post
-    (visit-free-enter-requires t)
-    (visit-free-mul-answer t)
-    (visit-free-pos-of-requires t)
-    (visit-free-add-answer t)
-    (visit-free-answer-requires t)
-    (visit-free-returns t)
-    (visit-free-pos-of-requires-2 t)
-    (visit-free-kept-word-requires t)
-    (visit-free-answer-requires-2 t)
-    (visit-free-returns-2 t)
-    (visit-free-kept-at-requires t)
-    (visit-free-add-list t)
-    (visit-free-mul-list t)
-    (visit-free-index-1-list t)
-    (visit-free-sub-answer t)
-    (visit-free-answer-requires-3 t)
-    (visit-free-returns-3 t)
-    (visit-free-sub-apply t)
-    (visit-free-apply-requires t)
-    (visit-free-slice-aggregate-keep t)
-    (visit-free-end-of-requires t)
-    (visit-free-list-of-requires t)
-    (visit-free-keep-requires t)
-    (visit-free-returns-4 t))
     (λ t. visit-not-lts.spec (visit-not-claims t)
     (visit-not-at t)
     visit-not.Post
@@ -2349,8 +2302,22 @@ pub +apply+use-free+use-live+use-rule+visit+visit-choice+visit-free+visit-not+vi
     (visit-open-a-of-requires-2 t)
     (visit-open-use-rule-requires t)
     (visit-open-returns-2 t)
+    (visit-open-visit-pair-requires t)
+    (visit-open-returns-3 t)
+    (visit-open-visit-pair-requires-2 t)
+    (visit-open-returns-4 t)
     (visit-open-apply-requires t)
-    (visit-open-returns-3 t))
+    (visit-open-returns-5 t))
+    (λ t. visit-pair-lts.spec (visit-pair-claims t)
+    (visit-pair-at t)
+    visit-pair.Post
+    (visit-pair-a-of-requires t)
+    (visit-pair-b-of-requires t)
+    (visit-pair-kind-of-requires t)
+    (visit-pair-visit-sequence-requires t)
+    (visit-pair-returns t)
+    (visit-pair-visit-choice-requires t)
+    (visit-pair-returns-2 t))
     (λ t. visit-repetition-lts.spec (visit-repetition-claims t)
     (visit-repetition-at t)
     visit-repetition.Post
