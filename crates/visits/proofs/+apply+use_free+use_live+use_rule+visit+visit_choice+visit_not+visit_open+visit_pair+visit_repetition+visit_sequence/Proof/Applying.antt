@@ -1,0 +1,273 @@
+-- What is asked of `apply`: its callees may be called, and whichever arm was taken, the node is applied and its answer kept.
+use Prim.Native.Nat.{ℕ, _<_}
+use borrow.Fn.PlainCycle.{is}
+use Rattle.visits.proofs.apply.Reads as apply
+use Rattle.visits.proofs.+apply+use_free+use_live+use_rule+visit+visit_choice+visit_not+visit_open+visit_pair+visit_repetition+visit_sequence.Lts-apply as apply-lts
+use Rattle.visits.proofs.use_free.Reads as use-free
+use Rattle.visits.proofs.visit_not.Reads as visit-not
+use Rattle.visits.proofs.visit_pair.Reads as visit-pair
+use Rattle.visits.proofs.visit_repetition.Reads as visit-repetition
+use Rattle.visits.proofs.a_of.Reads as a-of-reads
+use Rattle.visits.proofs.answer.Reads as answer-reads
+use Rattle.visits.proofs.b_of.Reads as b-of-reads
+use Rattle.visits.proofs.end_of.Reads as end-of-reads
+use Rattle.visits.proofs.keep.Reads as keep-reads
+use Rattle.visits.proofs.kind_of.Reads as kind-of-reads
+use Rattle.visits.proofs.list_of.Reads as list-of-reads
+use Rattle.visits.proofs.pos_of.Reads as pos-of-reads
+use Rattle.visits.proofs.range_end.Reads as range-end-reads
+use Prim.Native.Nat.{_-_}
+use borrow.Author.Needs.{needs}
+use native.Mathlib.Omega.{arith}
+use mathlib.Core.Logic.{inl, inr, ⊎-elim}
+use mathlib.Core.Path.{_≡_, refl, sym, _∙_}
+use Rattle.visits.specs.Given.{lent, rulesIn, leftIn, posIn}
+use Rattle.visits.specs.Says.{applies, Ends}
+use Rattle.visits.proofs.Steps.{came-at}
+use Rattle.visits.proofs.Ready.{ready-at, root-in}
+use Rattle.visits.proofs.ByKind.{apply-rule, apply-not, apply-repetition, apply-empty, apply-above, apply-range, uses-free, rule-used, not-child, repetition-child, keeps-yes, keeps-no, above-six}
+use Rattle.sheet.proofs.Accepting.{well-formed}
+use Rattle.visits.proofs.Opening.{roomy, open-applied, plain-opens}
+use Rattle.visits.proofs.+apply+use_free+use_live+use_rule+visit+visit_choice+visit_not+visit_open+visit_pair+visit_repetition+visit_sequence.Proof.Ranks.{apply-at, use-free-below, visit-not-below, visit-pair-below, visit-repetition-below}
+
+abbrev pub apply-claims : ℕ → apply-lts.Claims
+apply-claims t = (kind-of-reads.Asked, kind-of-reads.Learnt, pos-of-reads.Asked, pos-of-reads.Learnt, answer-reads.Asked, answer-reads.Learnt, a-of-reads.Asked, a-of-reads.Learnt, b-of-reads.Asked, b-of-reads.Learnt, range-end-reads.Asked, range-end-reads.Learnt, use-free-below t, use-free.Post, visit-pair-below t, visit-pair.Post, visit-not-below t, visit-not.Post, visit-repetition-below t, visit-repetition.Post, end-of-reads.Asked, end-of-reads.Learnt, list-of-reads.Asked, list-of-reads.Learnt, keep-reads.Asked, keep-reads.Learnt)
+
+-- Where the arms of the decision over the kind meet: whichever was taken, the node is applied.
+pub apply-met : (t : ℕ) (c : apply-lts.At-match-came (apply-claims t) (apply-at t) apply.Post)
+    → Ends
+    (lent (c .before .before .before .args .table .now .now) (c .before .before .before .args .given .now)) (c .before .before .before .args .line .now .now)
+    (c .before .before .before .args .work .now .now) (c .match .work .now) (c .before .before .before .args .spot) (c .match .done)
+    (λ l s.
+    applies
+    (lent (c .before .before .before .args .table .now .now) (c .before .before .before .args .given .now)) (c .before .before .before .args .line .now .now)
+    (leftIn (c .before .before .before .args .spot)) l (c .before .before .before .args .node) (posIn (c .before .before .before .args .spot)) s)
+    × (c .match .work .name ≡ c .before .before .before .args .work .now .name)
+apply-met t c =
+    let at-start = c .before .before .before in
+    let at-kind-of = c .before .kind-of in
+    let ready = at-start .pre .1 .0 in
+    let fit = ready .fit in
+    let kind = sym (at-kind-of .ensures .0) in
+    ⊎-elim
+    (λ w. rw (w .3, w .4) (
+      record {
+        came = came-at _ _ (fit .short) _ _ _ _ (w .2 .ensures .0 ∙ w .1 .ensures) (w .2 .ensures .1) refl refl (apply-empty _ _ fit _ _ _ (ready .node-in) (ready .words) (ready .made-in) (kind ∙ w .0 .keys1) (ready .pos-in));
+        cells = omega arith;
+      },
+      refl,
+    ))
+    (⊎-elim
+    (λ w. rw (w .9, w .10) (
+      record {
+        came = came-at _ _ (fit .short) _ _ _ _ (w .8 .ensures .0) (w .8 .ensures .1) refl refl
+            (apply-range _ _ fit _ _ _ (ready .node-in) (ready .words) (ready .made-in) (kind ∙ w .0 .keys2) _ _ _ (w .3 .ensures .0) (w .5 .ensures .0) (rw (w .6 .ensures) at (w .7 .ensures)));
+        cells = omega arith;
+      },
+      refl,
+    ))
+    (⊎-elim
+    (λ w. rw (w .5, w .6) (
+      record {
+        came = apply-rule _ _ fit _ _ _ (ready .node-in) (kind ∙ w .0 .keys3) _ (w .3 .ensures .0)
+            (uses-free _ _ fit _ _ _ (at-start .pre .1 .1 .1 .0 (kind ∙ w .0 .keys3)) _ (let a = w .3 .ensures .0 in let r = rule-used _ _ fit (at-start .args .node) (ready .node-in) (kind ∙ w .0 .keys3) in omega arith) refl (w .4 .ensures .0 .came));
+        cells = w .4 .ensures .0 .cells;
+      },
+      w .4 .ensures .1,
+    ))
+    (⊎-elim
+    (λ w. rw (w .3, w .4) (w .2 .ensures .0, w .2 .ensures .1))
+    (⊎-elim
+    (λ w. rw (w .3, w .4) (w .2 .ensures .0, w .2 .ensures .1))
+    (⊎-elim
+    (λ w. rw (w .5, w .6) (
+      record { came = apply-not _ _ fit _ _ _ (ready .node-in) (kind ∙ w .0 .keys6) _ (w .3 .ensures .0) (w .4 .ensures .0 .came); cells = w .4 .ensures .0 .cells },
+      w .4 .ensures .1,
+    ))
+    (⊎-elim
+    (λ w. rw (w .5, w .6) (
+      record { came = apply-repetition _ _ fit _ _ _ (ready .node-in) (kind ∙ w .0 .keys7) _ (w .3 .ensures .0) (w .4 .ensures .0 .came); cells = w .4 .ensures .0 .cells },
+      w .4 .ensures .1,
+    ))
+    (λ w.
+    let r = w .0 .rest in
+    let q = above-six (at-kind-of .result) (r .0 .0 .0 .0 .0 .0 .1) (r .0 .0 .0 .0 .0 .1) (r .0 .0 .0 .0 .1) (r .0 .0 .0 .1) (r .0 .0 .1) (r .0 .1) (r .1) in
+    rw (w .3, w .4) (
+      record {
+        came = came-at _ _ (fit .short) _ _ _ _ (w .2 .ensures .0 ∙ w .1 .ensures) (w .2 .ensures .1) refl refl (apply-above _ _ fit _ _ _ (ready .node-in) (ready .words) (ready .made-in) (q .0) (kind ∙ q .1) (ready .pos-in));
+        cells = omega arith;
+      },
+      refl,
+    ))))))))
+    (c .match .came)
+
+pub apply-kind-of-requires : (t : ℕ) → apply-lts.Need-kind-of-requires (apply-claims t) (apply-at t) apply.Post
+apply-kind-of-requires t c κs =
+    let at-start = c .before in
+    let ready = at-start .pre .1 .0 in
+    let fit = at-start .pre .1 .0 .fit in
+    (fit .accepted, (ready .node-in, fit .first))
+
+pub apply-pos-of-requires : (t : ℕ) → apply-lts.Need-pos-of-requires (apply-claims t) (apply-at t) apply.Post
+apply-pos-of-requires t c κs = tt
+
+pub apply-answer-requires : (t : ℕ) → apply-lts.Need-answer-requires (apply-claims t) (apply-at t) apply.Post
+apply-answer-requires t c κs = tt
+
+pub apply-a-of-requires : (t : ℕ) → apply-lts.Need-a-of-requires (apply-claims t) (apply-at t) apply.Post
+apply-a-of-requires t c κs =
+    let at-start = c .before .before .before .before .before in
+    let ready = at-start .pre .1 .0 in
+    let fit = at-start .pre .1 .0 .fit in
+    (fit .accepted, (ready .node-in, fit .first))
+
+pub apply-b-of-requires : (t : ℕ) → apply-lts.Need-b-of-requires (apply-claims t) (apply-at t) apply.Post
+apply-b-of-requires t c κs =
+    let at-start = c .before .before .before .before .before .before .before in
+    let ready = at-start .pre .1 .0 in
+    let fit = at-start .pre .1 .0 .fit in
+    (fit .accepted, (ready .node-in, fit .first))
+
+pub apply-pos-of-requires-2 : (t : ℕ) → apply-lts.Need-pos-of-requires-2 (apply-claims t) (apply-at t) apply.Post
+apply-pos-of-requires-2 t c κs = tt
+
+pub apply-range-end-requires : (t : ℕ) → apply-lts.Need-range-end-requires (apply-claims t) (apply-at t) apply.Post
+apply-range-end-requires t c κs =
+    let at-start = c .before .before .before .before .before .before .before .before .before in
+    let at-pos-of2 = c .pos-of2 in
+    let ready = at-start .pre .1 .0 in
+    let fit = at-start .pre .1 .0 .fit in
+    (rw (at-pos-of2 .ensures) (ready .pos-in), fit .short)
+
+pub apply-answer-requires-2 : (t : ℕ) → apply-lts.Need-answer-requires-2 (apply-claims t) (apply-at t) apply.Post
+apply-answer-requires-2 t c κs = tt
+
+pub apply-a-of-requires-2 : (t : ℕ) → apply-lts.Need-a-of-requires-2 (apply-claims t) (apply-at t) apply.Post
+apply-a-of-requires-2 t c κs =
+    let at-start = c .before .before .before .before .before in
+    let ready = at-start .pre .1 .0 in
+    let fit = at-start .pre .1 .0 .fit in
+    (fit .accepted, (ready .node-in, fit .first))
+
+pub apply-use-free-requires : (t : ℕ) → apply-lts.Need-use-free-requires (apply-claims t) (apply-at t) apply.Post
+apply-use-free-requires t c κs =
+    let at-start = c .before .before .before .before .before .before in
+    let at-a-of2 = c .a-of2 in
+    let at-kind-of = c .before .before .before .before .kind-of in
+    let at-match = c .before .before .before .match in
+    let ready = at-start .pre .1 .0 in
+    let fit = at-start .pre .1 .0 .fit in
+    let e = at-a-of2 .ensures .0 in
+    let kind = sym (at-kind-of .ensures .0) ∙ at-match .keys3 in
+    let r = rule-used _ _ fit (at-start .args .node) (ready .node-in) kind in
+    let la : at-a-of2 .result < rulesIn (lent (at-start .args .table .now .now) (at-start .args .given .now)) = omega arith in
+    let few-rules = well-formed _ (fit .accepted) .few-rules in
+    (omega (arith, at-start .pre .0), (ready-at _ ready (root-in _ _ fit _ la), (at-start .pre .1 .1 .0, (omega arith, la))))
+
+pub apply-visit-pair-requires : (t : ℕ) → apply-lts.Need-visit-pair-requires (apply-claims t) (apply-at t) apply.Post
+apply-visit-pair-requires t c κs =
+    let at-start = c .before .before .before .before in
+    let at-kind-of = c .before .before .kind-of in
+    let at-match = c .before .match in
+    (omega (arith, at-start .pre .0), (at-start .pre .1 .0, (at-start .pre .1 .1 .0, inl (sym (at-kind-of .ensures .0) ∙ at-match .keys4))))
+
+pub apply-visit-pair-requires-2 : (t : ℕ) → apply-lts.Need-visit-pair-requires-2 (apply-claims t) (apply-at t) apply.Post
+apply-visit-pair-requires-2 t c κs =
+    let at-start = c .before .before .before .before in
+    let at-kind-of = c .before .before .kind-of in
+    let at-match = c .before .match in
+    (omega (arith, at-start .pre .0), (at-start .pre .1 .0, (at-start .pre .1 .1 .0, inr (sym (at-kind-of .ensures .0) ∙ at-match .keys5))))
+
+pub apply-a-of-requires-3 : (t : ℕ) → apply-lts.Need-a-of-requires-3 (apply-claims t) (apply-at t) apply.Post
+apply-a-of-requires-3 t c κs =
+    let at-start = c .before .before .before .before .before in
+    let ready = at-start .pre .1 .0 in
+    let fit = at-start .pre .1 .0 .fit in
+    (fit .accepted, (ready .node-in, fit .first))
+
+pub apply-visit-not-requires : (t : ℕ) → apply-lts.Need-visit-not-requires (apply-claims t) (apply-at t) apply.Post
+apply-visit-not-requires t c κs =
+    let at-start = c .before .before .before .before .before .before in
+    let at-a-of3 = c .a-of3 in
+    let at-kind-of = c .before .before .before .before .kind-of in
+    let at-match = c .before .before .before .match in
+    let ready = at-start .pre .1 .0 in
+    let fit = at-start .pre .1 .0 .fit in
+    let e = at-a-of3 .ensures .0 in
+    let k = not-child _ _ fit (at-start .args .node) (ready .node-in) (sym (at-kind-of .ensures .0) ∙ at-match .keys6) in
+    (omega (arith, at-start .pre .0), (ready-at _ ready (omega arith), at-start .pre .1 .1 .0))
+
+pub apply-a-of-requires-4 : (t : ℕ) → apply-lts.Need-a-of-requires-4 (apply-claims t) (apply-at t) apply.Post
+apply-a-of-requires-4 t c κs =
+    let at-start = c .before .before .before .before .before in
+    let ready = at-start .pre .1 .0 in
+    let fit = at-start .pre .1 .0 .fit in
+    (fit .accepted, (ready .node-in, fit .first))
+
+pub apply-visit-repetition-requires : (t : ℕ) → apply-lts.Need-visit-repetition-requires (apply-claims t) (apply-at t) apply.Post
+apply-visit-repetition-requires t c κs =
+    let at-start = c .before .before .before .before .before .before in
+    let at-a-of4 = c .a-of4 in
+    let at-kind-of = c .before .before .before .before .kind-of in
+    let at-match = c .before .before .before .match in
+    let ready = at-start .pre .1 .0 in
+    let fit = at-start .pre .1 .0 .fit in
+    let e = at-a-of4 .ensures .0 in
+    let k = repetition-child _ _ fit (at-start .args .node) (ready .node-in) (sym (at-kind-of .ensures .0) ∙ at-match .keys7) in
+    (omega (arith, at-start .pre .0), (ready-at _ ready (omega arith), (at-start .pre .1 .1 .0, ready .node-in)))
+
+pub apply-pos-of-requires-3 : (t : ℕ) → apply-lts.Need-pos-of-requires-3 (apply-claims t) (apply-at t) apply.Post
+apply-pos-of-requires-3 t c κs = tt
+
+pub apply-answer-requires-3 : (t : ℕ) → apply-lts.Need-answer-requires-3 (apply-claims t) (apply-at t) apply.Post
+apply-answer-requires-3 t c κs = tt
+
+pub apply-element-copy-out-if1 : (t : ℕ) → apply-lts.Need-element-copy-out-if1 (apply-claims t) (apply-at t) apply.Post
+apply-element-copy-out-if1 t c = search needs
+
+pub apply-returns : (t : ℕ) → apply-lts.Need-returns (apply-claims t) (apply-at t) apply.Post
+apply-returns t c =
+    let at-start = c .before .before .before .before .before in
+    let at-if1 = c .if1 in
+    let rec-match = c .before .before in
+    let ready = at-start .pre .1 .0 in
+    let met = apply-met t rec-match in
+    (plain-opens (lent (at-start .args .table .now .now) (at-start .args .given .now)) (at-start .args .line .now .now) (at-start .args .work .now .now) (at-start .args .spot) (at-start .args .node) (posIn (at-start .args .spot)) ready (keeps-no _ (at-if1 .taken)) _ _ (met .0), met .1)
+
+pub apply-slice-aggregate-keep : (t : ℕ) → apply-lts.Need-slice-aggregate-keep (apply-claims t) (apply-at t) apply.Post
+apply-slice-aggregate-keep t c = refl
+
+pub apply-pos-of-requires-4 : (t : ℕ) → apply-lts.Need-pos-of-requires-4 (apply-claims t) (apply-at t) apply.Post
+apply-pos-of-requires-4 t c κs = tt
+
+pub apply-end-of-requires : (t : ℕ) → apply-lts.Need-end-of-requires (apply-claims t) (apply-at t) apply.Post
+apply-end-of-requires t c κs = tt
+
+pub apply-list-of-requires : (t : ℕ) → apply-lts.Need-list-of-requires (apply-claims t) (apply-at t) apply.Post
+apply-list-of-requires t c κs = tt
+
+pub apply-keep-requires : (t : ℕ) → apply-lts.Need-keep-requires (apply-claims t) (apply-at t) apply.Post
+apply-keep-requires t c κs =
+    let at-start = c .before .before .before .before .before .before .before .before .before .before in
+    let at-end-of = c .before .end-of in
+    let at-pos-of4 = c .before .before .pos-of4 in
+    let rec-match = c .before .before .before .before .before .before .before in
+    let ready = at-start .pre .1 .0 in
+    let met = apply-met t rec-match in
+    let e = at-end-of .ensures in
+    let m = met .0 .came .end-most in
+    (rw (at-pos-of4 .ensures) (roomy (lent (at-start .args .table .now .now) (at-start .args .given .now)) (at-start .args .line .now .now) _ (at-start .args .node) (posIn (at-start .args .spot)) (ready .fit) (met .0 .came .words .room) (ready .node-in) (ready .pos-in)), omega arith)
+
+pub apply-returns-2 : (t : ℕ) → apply-lts.Need-returns-2 (apply-claims t) (apply-at t) apply.Post
+apply-returns-2 t c =
+    let at-start = c .before .before .before .before .before .before .before .before .before .before .before in
+    let at-if1 = c .before .before .before .before .before .before .if1 in
+    let at-pos-of4 = c .before .before .before .pos-of4 in
+    let at-end-of = c .before .before .end-of in
+    let at-list-of = c .before .list-of in
+    let at-keep = c .keep in
+    let rec-match = c .before .before .before .before .before .before .before .before in
+    let ready = at-start .pre .1 .0 in
+    let free = keeps-yes _ (at-if1 .left) in
+    let met = apply-met t rec-match in
+    (open-applied (lent (at-start .args .table .now .now) (at-start .args .given .now)) (at-start .args .line .now .now) (at-start .args .work .now .now) (at-start .args .spot) (at-start .args .node) (posIn (at-start .args .spot)) ready (at-start .pre .1 .1 .0) free _ refl _ (at-start .pre .1 .1 .1 .1 free) _ _ (met .0) (rw (at-pos-of4 .ensures, at-end-of .ensures, at-list-of .ensures) at (at-keep .ensures)), met .1)
