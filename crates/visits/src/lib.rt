@@ -562,26 +562,21 @@ fn visit_open(
     ensures says { λ r. ⌜ Ends (lent (now (now (table .entry))) (now (given .entry))) (now (now (line .entry))) (now (now (work .entry))) (now (now (work .exit))) spot r (λ (l : List Note) (s : State). opens (lent (now (now (table .entry))) (now (given .entry))) (now (now (line .entry))) (leftIn spot) l node (posIn spot) s) ⌝ }
     ensures lent { λ _. ⌜ (now (work .exit)) .name ≡ (now (work .entry)) .name ⌝ }
 {
-    let kind = kind_of(given, *table, node);
-    if kind == 1 {
-        let end = range_end(
-            *line,
-            a_of(given, *table, node),
-            b_of(given, *table, node),
-            pos_of(spot),
-        );
-        return answer(end, 0);
+    match kind_of(given, *table, node) {
+        1 => answer(
+            range_end(
+                *line,
+                a_of(given, *table, node),
+                b_of(given, *table, node),
+                pos_of(spot),
+            ),
+            0,
+        ),
+        2 => use_rule(given, table, line, work, spot, a_of(given, *table, node)),
+        3 => visit_pair(given, table, line, work, spot, node),
+        4 => visit_pair(given, table, line, work, spot, node),
+        _ => apply(given, table, line, work, spot, node),
     }
-    if kind == 2 {
-        return use_rule(given, table, line, work, spot, a_of(given, *table, node));
-    }
-    if kind == 3 {
-        return visit_pair(given, table, line, work, spot, node);
-    }
-    if kind == 4 {
-        return visit_pair(given, table, line, work, spot, node);
-    }
-    apply(given, table, line, work, spot, node)
 }
 
 // A visit: the answer that is kept, or else the node is applied. It keeps no place on the stack, since it ends in a jump to what it calls.

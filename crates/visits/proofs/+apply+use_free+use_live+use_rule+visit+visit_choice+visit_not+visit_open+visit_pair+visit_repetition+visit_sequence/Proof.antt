@@ -43,7 +43,7 @@ use Rattle.visits.proofs.+apply+use_free+use_live+use_rule+visit+visit_
 use Rattle.visits.proofs.+apply+use_free+use_live+use_rule+visit+visit_choice+visit_not+visit_open+visit_pair+visit_repetition+visit_sequence.Proof.UsingRule.{use-rule-claims, use-rule-live-of-requires, use-rule-pos-of-requires, use-rule-mul-find-use, use-rule-add-find-use, use-rule-find-use-requires, use-rule-sub-entry, use-rule-cast-entry, use-rule-mul-entry, use-rule-add-list, use-rule-mul-list, use-rule-index-1-list, use-rule-answer-requires, use-rule-returns, use-rule-add-end, use-rule-mul-end, use-rule-index-1-end, use-rule-answer-requires-2, use-rule-returns-2, use-rule-use-live-requires, use-rule-returns-3}
 use Rattle.visits.proofs.+apply+use_free+use_live+use_rule+visit+visit_choice+visit_not+visit_open+visit_pair+visit_repetition+visit_sequence.Proof.VisitingChoice.{visit-choice-claims, visit-choice-visit-requires, visit-choice-end-of-requires, visit-choice-returns, visit-choice-visit-requires-2, visit-choice-returns-2}
 use Rattle.visits.proofs.+apply+use_free+use_live+use_rule+visit+visit_choice+visit_not+visit_open+visit_pair+visit_repetition+visit_sequence.Proof.VisitingNot.{visit-not-claims, visit-not-visit-requires, visit-not-end-of-requires, visit-not-returns, visit-not-pos-of-requires, visit-not-answer-requires, visit-not-returns-2, visit-not-answer-requires-2, visit-not-returns-3}
-use Rattle.visits.proofs.+apply+use_free+use_live+use_rule+visit+visit_choice+visit_not+visit_open+visit_pair+visit_repetition+visit_sequence.Proof.VisitingOpen.{visit-open-claims, visit-open-kind-of-requires, visit-open-a-of-requires, visit-open-b-of-requires, visit-open-pos-of-requires, visit-open-range-end-requires, visit-open-answer-requires, visit-open-returns, visit-open-a-of-requires-2, visit-open-use-rule-requires, visit-open-returns-2, visit-open-visit-pair-requires, visit-open-returns-3, visit-open-visit-pair-requires-2, visit-open-returns-4, visit-open-apply-requires, visit-open-returns-5}
+use Rattle.visits.proofs.+apply+use_free+use_live+use_rule+visit+visit_choice+visit_not+visit_open+visit_pair+visit_repetition+visit_sequence.Proof.VisitingOpen.{visit-open-claims, visit-open-kind-of-requires, visit-open-a-of-requires, visit-open-b-of-requires, visit-open-pos-of-requires, visit-open-range-end-requires, visit-open-answer-requires, visit-open-a-of-requires-2, visit-open-use-rule-requires, visit-open-visit-pair-requires, visit-open-visit-pair-requires-2, visit-open-apply-requires, visit-open-returns, visit-open-returns-2, visit-open-returns-3, visit-open-returns-4, visit-open-returns-5}
 use Rattle.visits.proofs.+apply+use_free+use_live+use_rule+visit+visit_choice+visit_not+visit_open+visit_pair+visit_repetition+visit_sequence.Proof.VisitingPair.{visit-pair-claims, visit-pair-a-of-requires, visit-pair-b-of-requires, visit-pair-kind-of-requires, visit-pair-visit-sequence-requires, visit-pair-returns, visit-pair-visit-choice-requires, visit-pair-returns-2}
 use Rattle.visits.proofs.+apply+use_free+use_live+use_rule+visit+visit_choice+visit_not+visit_open+visit_pair+visit_repetition+visit_sequence.Proof.VisitingRepetition.{visit-repetition-claims, visit-repetition-pos-of-requires, visit-repetition-visit-requires, visit-repetition-end-of-requires, visit-repetition-returns, visit-repetition-answer-requires, visit-repetition-returns-2, visit-repetition-answer-requires-2, visit-repetition-returns-3, visit-repetition-moved-requires, visit-repetition-visit-requires-2, visit-repetition-end-of-requires-2, visit-repetition-returns-4, visit-repetition-slice-aggregate-joined, visit-repetition-list-of-requires, visit-repetition-list-of-requires-2, visit-repetition-joined-requires, visit-repetition-returns-5}
 use Rattle.visits.proofs.+apply+use_free+use_live+use_rule+visit+visit_choice+visit_not+visit_open+visit_pair+visit_repetition+visit_sequence.Proof.VisitingSequence.{visit-sequence-claims, visit-sequence-visit-requires, visit-sequence-end-of-requires, visit-sequence-returns, visit-sequence-moved-requires, visit-sequence-visit-requires-2, visit-sequence-end-of-requires-2, visit-sequence-returns-2, visit-sequence-slice-aggregate-joined, visit-sequence-list-of-requires, visit-sequence-list-of-requires-2, visit-sequence-joined-requires, visit-sequence-returns-3}
@@ -219,15 +219,15 @@ pub +apply+use-free+use-live+use-rule+visit+visit-choice+visit-not+visit-open+vi
     (visit-open-pos-of-requires t)
     (visit-open-range-end-requires t)
     (visit-open-answer-requires t)
-    (visit-open-returns t)
     (visit-open-a-of-requires-2 t)
     (visit-open-use-rule-requires t)
-    (visit-open-returns-2 t)
     (visit-open-visit-pair-requires t)
-    (visit-open-returns-3 t)
     (visit-open-visit-pair-requires-2 t)
-    (visit-open-returns-4 t)
     (visit-open-apply-requires t)
+    (visit-open-returns t)
+    (visit-open-returns-2 t)
+    (visit-open-returns-3 t)
+    (visit-open-returns-4 t)
     (visit-open-returns-5 t))
     (λ t. visit-pair-lts.spec (visit-pair-claims t)
     (visit-pair-at t)

@@ -56,12 +56,52 @@ visit-open-range-end-requires t c κs =
 pub visit-open-answer-requires : (t : ℕ) → visit-open-lts.Need-answer-requires (visit-open-claims t) (visit-open-at t) visit-open.Post
 visit-open-answer-requires t c κs = tt
 
+pub visit-open-a-of-requires-2 : (t : ℕ) → visit-open-lts.Need-a-of-requires-2 (visit-open-claims t) (visit-open-at t) visit-open.Post
+visit-open-a-of-requires-2 t c κs =
+    let at-start = c .before .before .before .before .before in
+    let ready = at-start .pre .1 .0 in
+    (ready .fit .accepted, (ready .node-in, ready .fit .first))
+
+pub visit-open-use-rule-requires : (t : ℕ) → visit-open-lts.Need-use-rule-requires (visit-open-claims t) (visit-open-at t) visit-open.Post
+visit-open-use-rule-requires t c κs =
+    let at-start = c .before .before .before .before .before .before in
+    let at-a-of2 = c .a-of2 in
+    let at-kind-of = c .before .before .before .before .kind-of in
+    let at-match = c .before .before .before .match in
+    let ready = at-start .pre .1 .0 in
+    let fit = ready .fit in
+    let e = at-a-of2 .ensures .0 in
+    let r = rule-used _ _ fit (at-start .args .node) (ready .node-in) (sym (at-kind-of .ensures .0) ∙ at-match .keys2) in
+    let la : at-a-of2 .result < rulesIn (lent (at-start .args .table .now .now) (at-start .args .given .now)) = omega arith in
+    (omega (arith, at-start .pre .0), (ready-at _ ready (root-in _ _ fit _ la), ((at-start .pre .1 .1 .0, la), at-start .pre .1 .1 .1)))
+
+pub visit-open-visit-pair-requires : (t : ℕ) → visit-open-lts.Need-visit-pair-requires (visit-open-claims t) (visit-open-at t) visit-open.Post
+visit-open-visit-pair-requires t c κs =
+    let at-start = c .before .before .before .before in
+    let at-kind-of = c .before .before .kind-of in
+    let at-match = c .before .match in
+    (omega (arith, at-start .pre .0), (at-start .pre .1 .0, (at-start .pre .1 .1 .0, inl (sym (at-kind-of .ensures .0) ∙ at-match .keys3))))
+
+pub visit-open-visit-pair-requires-2 : (t : ℕ) → visit-open-lts.Need-visit-pair-requires-2 (visit-open-claims t) (visit-open-at t) visit-open.Post
+visit-open-visit-pair-requires-2 t c κs =
+    let at-start = c .before .before .before .before in
+    let at-kind-of = c .before .before .kind-of in
+    let at-match = c .before .match in
+    (omega (arith, at-start .pre .0), (at-start .pre .1 .0, (at-start .pre .1 .1 .0, inr (sym (at-kind-of .ensures .0) ∙ at-match .keys4))))
+
+pub visit-open-apply-requires : (t : ℕ) → visit-open-lts.Need-apply-requires (visit-open-claims t) (visit-open-at t) visit-open.Post
+visit-open-apply-requires t c κs =
+    let at-start = c .before .before .before .before in
+    let at-match = c .before .match in
+    let at-kind-of = c .before .before .kind-of in
+    (omega (arith, at-start .pre .0), (at-start .pre .1 .0, (at-start .pre .1 .1 .0, ((λ e. absurd (at-match .rest .0 .0 .1 (at-kind-of .ensures .0 ∙ e))), (λ k. absurd (not-both k (at-start .pre .1 .1 .1)))))))
+
 pub visit-open-returns : (t : ℕ) → visit-open-lts.Need-returns (visit-open-claims t) (visit-open-at t) visit-open.Post
 visit-open-returns t c =
     let at-start = c .before .before .before .before .before .before .before .before .before .before .before in
     let at-answer = c .answer in
     let at-kind-of = c .before .before .before .before .before .before .before .before .before .kind-of in
-    let at-if1 = c .before .before .before .before .before .before .before .before .if1 in
+    let at-match = c .before .before .before .before .before .before .before .before .match in
     let at-a-of = c .before .before .before .before .before .a-of in
     let at-b-of = c .before .before .before .b-of in
     let at-pos-of = c .before .before .pos-of in
@@ -71,79 +111,39 @@ visit-open-returns t c =
       plain-opens (lent (at-start .args .table .now .now) (at-start .args .given .now)) (at-start .args .line .now .now) (at-start .args .work .now .now) (at-start .args .spot) (at-start .args .node) (posIn (at-start .args .spot)) ready (at-start .pre .1 .1 .1) _ _
           (record {
             came = came-at _ _ (fit .short) _ _ _ _ (at-answer .ensures .0) (at-answer .ensures .1) refl refl
-                (apply-range _ _ fit _ _ _ (ready .node-in) (ready .words) (ready .made-in) (sym (at-kind-of .ensures .0) ∙ at-if1 .taken) _ _ _ (at-a-of .ensures .0) (at-b-of .ensures .0) (rw (at-pos-of .ensures) at (at-range-end .ensures)));
+                (apply-range _ _ fit _ _ _ (ready .node-in) (ready .words) (ready .made-in) (sym (at-kind-of .ensures .0) ∙ at-match .keys1) _ _ _ (at-a-of .ensures .0) (at-b-of .ensures .0) (rw (at-pos-of .ensures) at (at-range-end .ensures)));
             cells = omega arith;
           }),
       refl,
     )
 
-pub visit-open-a-of-requires-2 : (t : ℕ) → visit-open-lts.Need-a-of-requires-2 (visit-open-claims t) (visit-open-at t) visit-open.Post
-visit-open-a-of-requires-2 t c κs =
-    let at-start = c .before .before .before .before .before .before in
-    let ready = at-start .pre .1 .0 in
-    (ready .fit .accepted, (ready .node-in, ready .fit .first))
-
-pub visit-open-use-rule-requires : (t : ℕ) → visit-open-lts.Need-use-rule-requires (visit-open-claims t) (visit-open-at t) visit-open.Post
-visit-open-use-rule-requires t c κs =
-    let at-start = c .before .before .before .before .before .before .before in
-    let at-a-of2 = c .a-of2 in
-    let at-kind-of = c .before .before .before .before .before .kind-of in
-    let at-if2 = c .before .before .before .if2 in
-    let ready = at-start .pre .1 .0 in
-    let fit = ready .fit in
-    let e = at-a-of2 .ensures .0 in
-    let r = rule-used _ _ fit (at-start .args .node) (ready .node-in) (sym (at-kind-of .ensures .0) ∙ at-if2 .taken) in
-    let la : at-a-of2 .result < rulesIn (lent (at-start .args .table .now .now) (at-start .args .given .now)) = omega arith in
-    (omega (arith, at-start .pre .0), (ready-at _ ready (root-in _ _ fit _ la), ((at-start .pre .1 .1 .0, la), at-start .pre .1 .1 .1)))
-
 pub visit-open-returns-2 : (t : ℕ) → visit-open-lts.Need-returns-2 (visit-open-claims t) (visit-open-at t) visit-open.Post
 visit-open-returns-2 t c =
-    let at-start = c .before .before .before .before .before .before .before .before in
-    let at-kind-of = c .before .before .before .before .before .before .kind-of in
-    let at-if2 = c .before .before .before .before .if2 in
+    let at-start = c .before .before .before .before .before .before .before in
+    let at-kind-of = c .before .before .before .before .before .kind-of in
+    let at-match = c .before .before .before .before .match in
     let at-a-of2 = c .before .a-of2 in
     let at-use-rule = c .use-rule in
     let ready = at-start .pre .1 .0 in (
       plain-opens (lent (at-start .args .table .now .now) (at-start .args .given .now)) (at-start .args .line .now .now) (at-start .args .work .now .now) (at-start .args .spot) (at-start .args .node) (posIn (at-start .args .spot)) ready (at-start .pre .1 .1 .1) _ _
           (record {
-            came = apply-rule _ _ (ready .fit) _ _ _ (ready .node-in) (sym (at-kind-of .ensures .0) ∙ at-if2 .taken) _ (at-a-of2 .ensures .0) (at-use-rule .ensures .0 .came);
+            came = apply-rule _ _ (ready .fit) _ _ _ (ready .node-in) (sym (at-kind-of .ensures .0) ∙ at-match .keys2) _ (at-a-of2 .ensures .0) (at-use-rule .ensures .0 .came);
             cells = at-use-rule .ensures .0 .cells;
           }),
       at-use-rule .ensures .1,
     )
 
-pub visit-open-visit-pair-requires : (t : ℕ) → visit-open-lts.Need-visit-pair-requires (visit-open-claims t) (visit-open-at t) visit-open.Post
-visit-open-visit-pair-requires t c κs =
-    let at-start = c .before .before .before .before .before .before in
-    let at-kind-of = c .before .before .before .before .kind-of in
-    let at-if3 = c .before .if3 in
-    (omega (arith, at-start .pre .0), (at-start .pre .1 .0, (at-start .pre .1 .1 .0, inl (sym (at-kind-of .ensures .0) ∙ at-if3 .taken))))
-
 pub visit-open-returns-3 : (t : ℕ) → visit-open-lts.Need-returns-3 (visit-open-claims t) (visit-open-at t) visit-open.Post
 visit-open-returns-3 t c =
-    let at-start = c .before .before .before .before .before .before .before in
+    let at-start = c .before .before .before .before .before in
     let at-visit-pair = c .visit-pair in
     (plain-opens (lent (at-start .args .table .now .now) (at-start .args .given .now)) (at-start .args .line .now .now) (at-start .args .work .now .now) (at-start .args .spot) (at-start .args .node) (posIn (at-start .args .spot)) (at-start .pre .1 .0) (at-start .pre .1 .1 .1) _ _ (at-visit-pair .ensures .0), at-visit-pair .ensures .1)
 
-pub visit-open-visit-pair-requires-2 : (t : ℕ) → visit-open-lts.Need-visit-pair-requires-2 (visit-open-claims t) (visit-open-at t) visit-open.Post
-visit-open-visit-pair-requires-2 t c κs =
-    let at-start = c .before .before .before .before .before .before .before in
-    let at-kind-of = c .before .before .before .before .before .kind-of in
-    let at-if4 = c .before .if4 in
-    (omega (arith, at-start .pre .0), (at-start .pre .1 .0, (at-start .pre .1 .1 .0, inr (sym (at-kind-of .ensures .0) ∙ at-if4 .taken))))
-
 pub visit-open-returns-4 : (t : ℕ) → visit-open-lts.Need-returns-4 (visit-open-claims t) (visit-open-at t) visit-open.Post
 visit-open-returns-4 t c =
-    let at-start = c .before .before .before .before .before .before .before .before in
+    let at-start = c .before .before .before .before .before in
     let at-visit-pair2 = c .visit-pair2 in
     (plain-opens (lent (at-start .args .table .now .now) (at-start .args .given .now)) (at-start .args .line .now .now) (at-start .args .work .now .now) (at-start .args .spot) (at-start .args .node) (posIn (at-start .args .spot)) (at-start .pre .1 .0) (at-start .pre .1 .1 .1) _ _ (at-visit-pair2 .ensures .0), at-visit-pair2 .ensures .1)
-
-pub visit-open-apply-requires : (t : ℕ) → visit-open-lts.Need-apply-requires (visit-open-claims t) (visit-open-at t) visit-open.Post
-visit-open-apply-requires t c κs =
-    let at-start = c .before .before .before .before .before .before .before in
-    let at-if2 = c .before .before .before .if2 in
-    let at-kind-of = c .before .before .before .before .before .kind-of in
-    (omega (arith, at-start .pre .0), (at-start .pre .1 .0, (at-start .pre .1 .1 .0, ((λ e. absurd (at-if2 .left (at-kind-of .ensures .0 ∙ e))), (λ k. absurd (not-both k (at-start .pre .1 .1 .1)))))))
 
 pub visit-open-returns-5 : (t : ℕ) → visit-open-lts.Need-returns-5 (visit-open-claims t) (visit-open-at t) visit-open.Post
 visit-open-returns-5 t c =
