@@ -7,15 +7,15 @@ use Prim.Native.Nat.{ℕ, _+_, _-_, _*_, _<_, _≤_}
 use native.Mathlib.Omega.{arith}
 use lib.ListN.{length, getD, set}
 use Rattle.sheet.proofs.Accepting.{well-formed}
-use Rattle.visits.specs.Given.{Given, lent, nodesIn, keepsIn, allowanceIn, roomIn, leftIn, liveIn, Fit}
+use Rattle.visits.specs.Given.{Given, lent, nodesIn, keepsIn, allowanceIn, roomIn, leftIn, liveIn, posIn, Fit}
 use Rattle.visits.specs.Words.{topIn, madeIn, placeIn, Entered, Roomy, Kept}
-use Rattle.visits.specs.Says.{FAILED, STOPPED, endIn, listIn, Visited, Came, reading, applies, opens, Starts, Ends, EndsVisit}
+use Rattle.visits.specs.Says.{FAILED, STOPPED, endIn, listIn, Came, reading, applies, opens, Starts, Ends, EndsVisit}
 use Rattle.visits.proofs.Frame.{pair-in}
 use Rattle.visits.proofs.Steps.{came-at}
 use Rattle.visits.proofs.Nodes.{result}
 use Rattle.visits.proofs.Entering.{enter-effort, enter-deep, enter-open}
 use Rattle.visits.proofs.Keeping.{by-same, put-other, visited-plain, visited-fail, visited-match, applied-kept}
-use Rattle.visits.proofs.Depth.{left-less, came-open, cells-open}
+use Rattle.visits.proofs.Depth.{left-less, pos-less, space-open, starts-open, came-open, cells-open}
 
 -- There is room for what is kept.
 pub roomy : (given : Given) (line w : List ℕ) (i x : ℕ) → Fit given line → roomIn given line ≤ length w → i < nodesIn given → x ≤ length line → Roomy (lent [] (given .numbers)) line w i x
@@ -71,20 +71,37 @@ module _ (given : Given) (line w : List ℕ) (spot node pos : ℕ) (ready : Star
           cells = omega (arith, top-kept, made-kept);
         }
 
--- A visit of the words w that is counted, and then open.
-module _ (given : Given) (line w : List ℕ) (spot node pos : ℕ) (ready : Starts given line w spot node pos) (more : madeIn w < allowanceIn given) (some : leftIn spot ≢ 0) where
-  abbrev counted : List ℕ
-  counted = set w 2043 (madeIn w + 1)
+-- A visit that is counted, from the words w to w₁, and open: what is called next may start.
+pub record Opened (given : Given) (line w w₁ : List ℕ) (spot node : ℕ) : Type 0 where
+  pub more : madeIn w < allowanceIn given
+  pub some : leftIn spot ≢ 0
+  pub counted : w₁ ≡ set w 2043 (madeIn w + 1)
+  pub there : posIn (spot - 1) ≡ posIn spot
+  pub starts : Starts given line w₁ (spot - 1) node (posIn (spot - 1))
+  pub space : liveIn (spot - 1) + leftIn (spot - 1) ≤ 512
 
-  entered : {w′ : List ℕ} {r : Visited} → Came given line counted w′ (liveIn spot) (madeIn w + 1) (topIn w) r (λ l s. opens given line (leftIn (spot - 1)) l node pos s)
-      → Came given line w w′ (liveIn spot) (madeIn w) (topIn w) r (λ l s. reading given line (leftIn spot) l node pos s)
-  entered c = enter-open given line (ready .fit) (leftIn spot) (leftIn (spot - 1)) node pos (left-less spot some) more (let o = ready .open-in in omega arith) (ready .words) c
+module _ (given : Given) (line w : List ℕ) (spot node : ℕ) (ready : Starts given line w spot node (posIn spot)) {w₁ : List ℕ} where
+  pub counts : madeIn w < allowanceIn given → leftIn spot ≢ 0 → w₁ ≡ set w 2043 (madeIn w + 1) → Opened given line w w₁ spot node
+  counts more some is = record {
+    more = more;
+    some = some;
+    counted = is;
+    there = pos-less spot some;
+    starts = rw (is, pos-less spot some) (starts-open given line w spot node (posIn spot) ready more some);
+    space = space-open spot some (ready .open-in);
+  }
 
-  pub opened : (w′ : List ℕ) (r : ℕ) → Ends given line counted w′ (spot - 1) r (λ l s. opens given line (leftIn (spot - 1)) l node pos s)
-      → EndsVisit given line w w′ spot r (λ l s. reading given line (leftIn spot) l node pos s)
-  opened w′ r e =
-      let c = cells-open given line w spot node pos ready more some r e in
-      record { came = entered (came-open given line w spot node pos ready more some r e); cells = omega arith; fewer = λ h. omega arith }
+  pub opened : Opened given line w w₁ spot node → (w′ : List ℕ) (r : ℕ) → Ends given line w₁ w′ (spot - 1) r (λ l s. opens given line (leftIn (spot - 1)) l node (posIn (spot - 1)) s)
+      → EndsVisit given line w w′ spot r (λ l s. reading given line (leftIn spot) l node (posIn spot) s)
+  opened o w′ r e =
+      let h : Ends given line (set w 2043 (madeIn w + 1)) w′ (spot - 1) r (λ l s. opens given line (leftIn (spot - 1)) l node (posIn spot) s) = rw (o .counted, o .there) at e in
+      let c = cells-open given line w spot node (posIn spot) ready (o .more) (o .some) r h in
+      record {
+        came = enter-open given line (ready .fit) (leftIn spot) (leftIn (spot - 1)) node (posIn spot) (left-less spot (o .some)) (o .more) (let f = ready .open-in in omega arith) (ready .words)
+            (came-open given line w spot node (posIn spot) ready (o .more) (o .some) r h);
+        cells = omega arith;
+        fewer = λ h. omega arith;
+      }
 
 -- Where nothing is kept, an open visit is the node's application.
 pub plain-opens : (given : Given) (line w : List ℕ) (spot node pos : ℕ) → Starts given line w spot node pos → keepsIn given ≡ false → (w′ : List ℕ) (r : ℕ)
@@ -120,7 +137,14 @@ module _ (given : Given) (line w : List ℕ) (spot node pos : ℕ) (ready : Star
   refused-small (inr (inl h)) = let is : code ≡ 12 = h .2 in omega arith
   refused-small (inr (inr h)) = let is : code ≡ 0 = h .2 in omega arith
 
-  pub entered-open : Entered (lent [] (given .numbers)) w w₁ spot code → code ≡ 0 → (madeIn w < allowanceIn given) × (leftIn spot ≢ 0) × (w₁ ≡ set w 2043 (madeIn w + 1))
-  entered-open (inl h) z = let is : code ≡ 11 = h .1 in absurd (omega arith)
-  entered-open (inr (inl h)) z = let is : code ≡ 12 = h .2 in absurd (omega arith)
-  entered-open (inr (inr h)) z = (h .0, h .1, h .3)
+-- A visit that is not refused is counted.
+pub entered-open : (given : Given) (line w : List ℕ) (spot node : ℕ) → Starts given line w spot node (posIn spot) → {w₁ : List ℕ} {code : ℕ} → Entered (lent [] (given .numbers)) w w₁ spot code → code ≡ 0
+    → Opened given line w w₁ spot node
+entered-open given line w spot node ready {code = code} (inl h) z = let is : code ≡ 11 = h .1 in absurd (omega arith)
+entered-open given line w spot node ready {code = code} (inr (inl h)) z = let is : code ≡ 12 = h .2 in absurd (omega arith)
+entered-open given line w spot node ready (inr (inr h)) z = counts given line w spot node ready (h .0) (h .1) (h .3)
+
+-- The word of a pair is read, from the words w, which stay.
+pub record Looked (given : Given) (line w w₁ : List ℕ) (spot node word : ℕ) : Type 0 where
+  pub same : w₁ ≡ w
+  pub is : word ≡ getD w (placeIn given line node (posIn spot)) 0

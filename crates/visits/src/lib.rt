@@ -1,7 +1,8 @@
 // Visits: the reading of a line over lent working numbers, visit by visit, as 01's "How a line is read" has it.
 //
-// A visit is lent three numbers (given: see specs/Given), the table, the line and the working numbers. What it answers
-// is one number: where it ends (or FAILED, or STOPPED by a refusal) in the lower half, the list of its trees (or the refusal) in the upper.
+// A visit is lent three numbers (given: see specs/Given), the table, the line and the working numbers, and is told where it stands in one number
+// (spot: the position, the live uses, the open visits left). What it answers is one number too: where it ends (or FAILED, or STOPPED by a
+// refusal) in the lower half, the list of its trees (or the refusal) in the upper.
 // specs/Words says what the working numbers stand for: the live uses (three words each from word 0 on), the number of cells in use and of visits
 // made (words 2042 and 2043), the cells of trees, and the kept answers (two words for each pair of a node and a position).
 // The promise of each function (specs/Says): from words that stand for live uses and a state, the answer and the words it leaves say how the
