@@ -13,3 +13,4 @@ pub mod Places
 pub mod Opening
 pub mod Pairs
 pub mod Attempts
+pub mod Holding

@@ -2,7 +2,8 @@
 use Prim.Native.Nat.{ℕ, _+_, _*_, _/_, _%_, _<_, _≤_}
 use mathlib.Core.Path.{_≡_}
 use mathlib.Core.List.{List}
-use lib.ListN.{length}
+use mathlib.Core.Logic.{_≢_}
+use lib.ListN.{length, getD}
 use mathlib.Core.Bool.{false}
 use Rattle.meaning.specs.Grammar.{Answer, fail, ok, Note, node}
 use Rattle.meaning.specs.Reading.{State, Run, effort, deep, done, Visit, apply, useRule, visited, visit}
@@ -45,6 +46,11 @@ endIn r = r % 4294967296
 
 abbrev pub listIn : ℕ → ℕ
 listIn r = r / 4294967296
+
+-- What live use i holds, as an answer: list 0 is a failure.
+pub record Holds (w : List ℕ) (i r : ℕ) : Type 0 where
+  pub failed : getD w (i * 3 + 2) 0 ≡ 0 → (endIn r ≡ FAILED) × (listIn r ≡ 0)
+  pub matched : getD w (i * 3 + 2) 0 ≢ 0 → (endIn r ≡ getD w (i * 3 + 1) 0) × (listIn r ≡ getD w (i * 3 + 2) 0)
 
 -- The answer with what the words say after it: the cells in use, the visits made.
 pub record Visited : Type 0 where

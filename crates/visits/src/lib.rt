@@ -24,7 +24,7 @@ ghost use Rattle.cells.specs.Cells.{treesAt};
 ghost use Rattle.cells.specs.Arena.{Arena};
 ghost use Rattle.visits.specs.Given.{lent, kindIn, nodesIn, rulesIn, rootIn, keepsIn, leftIn, liveIn, posIn, Moved};
 ghost use Rattle.visits.specs.Words.{keyOf, topIn, madeIn, placeIn, Added, Entered, Roomy, Kept, Found};
-ghost use Rattle.visits.specs.Says.{reading, uses, grows, applies, opens, endOf, endIn, listIn, Starts, Ends, EndsVisit};
+ghost use Rattle.visits.specs.Says.{reading, uses, grows, applies, opens, endOf, endIn, listIn, Holds, Starts, Ends, EndsVisit};
 
 // The ends that are no position.
 pub const FAILED: u32 = 65535;
@@ -174,6 +174,20 @@ fn find_use(work: &mut &mut [u32], live: u32, key: u32) -> u32
         i += 1;
     }
     0
+}
+
+// The answer that a live use holds.
+fn held_by(work: &mut &mut [u32], live: u32) -> u64
+    requires { ⌜ (live * 3 + 2 < length (now (now work))) × (live ≤ 512) ⌝ }
+    ensures { λ r. ⌜ Holds (now (now (work .entry))) live r × (now (work .exit) ≡ now (work .entry)) ⌝ }
+{
+    let at = live as usize * 3;
+    let list = work[at + 2];
+    if list == 0 {
+        return answer(FAILED, 0);
+    }
+    let end = work[at + 1];
+    answer(end, list)
 }
 
 // Joins two lists of trees, behind an end.
@@ -459,13 +473,7 @@ fn use_rule(
 {
     let found = find_use(work, live_of(spot), pos_of(spot) * 64 + rule);
     if found != 0 {
-        let entry = (found - 1) as usize * 3;
-        let list = work[entry + 2];
-        if list == 0 {
-            return answer(FAILED, 0);
-        }
-        let end = work[entry + 1];
-        return answer(end, list);
+        return held_by(work, found - 1);
     }
     use_live(given, table, line, work, spot, rule)
 }

@@ -40,7 +40,7 @@ use Rattle.visits.proofs.+apply+use_free+use_live+use_rule+visit+visit_
 use Rattle.visits.proofs.+apply+use_free+use_live+use_rule+visit+visit_choice+visit_not+visit_open+visit_pair+visit_repetition+visit_sequence.Proof.Applying.{apply-claims, apply-kind-of-requires, apply-pos-of-requires, apply-answer-requires, apply-a-of-requires, apply-b-of-requires, apply-pos-of-requires-2, apply-range-end-requires, apply-answer-requires-2, apply-a-of-requires-2, apply-use-free-requires, apply-visit-pair-requires, apply-visit-pair-requires-2, apply-a-of-requires-3, apply-visit-not-requires, apply-a-of-requires-4, apply-visit-repetition-requires, apply-pos-of-requires-3, apply-answer-requires-3, apply-element-copy-out-if1, apply-returns, apply-slice-aggregate-keep, apply-pos-of-requires-4, apply-end-of-requires, apply-list-of-requires, apply-keep-requires, apply-returns-2}
 use Rattle.visits.proofs.+apply+use_free+use_live+use_rule+visit+visit_choice+visit_not+visit_open+visit_pair+visit_repetition+visit_sequence.Proof.UsingFree.{use-free-claims, use-free-pos-of-requires, use-free-root-of-requires, use-free-visit-requires, use-free-end-of-requires, use-free-returns, use-free-slice-aggregate-planted, use-free-list-of-requires, use-free-planted-requires, use-free-answer-requires, use-free-returns-2}
 use Rattle.visits.proofs.+apply+use_free+use_live+use_rule+visit+visit_choice+visit_not+visit_open+visit_pair+visit_repetition+visit_sequence.Proof.UsingLive.{use-live-claims, use-live-Inv-loop, use-live-μ-loop, use-live-root-of-requires, use-live-pos-of-requires, use-live-mul-key, use-live-add-key, use-live-live-of-requires, use-live-slice-aggregate-put-use, use-live-put-use-requires, use-live-add-visit, use-live-visit-requires, use-live-end-of-requires, use-live-returns, use-live-slice-aggregate-planted, use-live-list-of-requires, use-live-planted-requires, use-live-loop-holds, use-live-slice-aggregate-put-use-2, use-live-put-use-requires-2, use-live-add-visit-2, use-live-visit-requires-2, use-live-end-of-requires-2, use-live-answer-requires, use-live-answer-requires-2, use-live-slice-aggregate-planted-2, use-live-list-of-requires-2, use-live-planted-requires-2, use-live-loop-less, use-live-loop-again, use-live-returns-2, use-live-returns-3, use-live-returns-4}
-use Rattle.visits.proofs.+apply+use_free+use_live+use_rule+visit+visit_choice+visit_not+visit_open+visit_pair+visit_repetition+visit_sequence.Proof.UsingRule.{use-rule-claims, use-rule-live-of-requires, use-rule-pos-of-requires, use-rule-mul-find-use, use-rule-add-find-use, use-rule-find-use-requires, use-rule-sub-entry, use-rule-cast-entry, use-rule-mul-entry, use-rule-add-list, use-rule-mul-list, use-rule-index-1-list, use-rule-answer-requires, use-rule-returns, use-rule-add-end, use-rule-mul-end, use-rule-index-1-end, use-rule-answer-requires-2, use-rule-returns-2, use-rule-use-live-requires, use-rule-returns-3}
+use Rattle.visits.proofs.+apply+use_free+use_live+use_rule+visit+visit_choice+visit_not+visit_open+visit_pair+visit_repetition+visit_sequence.Proof.UsingRule.{use-rule-claims, use-rule-live-of-requires, use-rule-pos-of-requires, use-rule-mul-find-use, use-rule-add-find-use, use-rule-find-use-requires, use-rule-sub-held-by, use-rule-held-by-requires, use-rule-returns, use-rule-use-live-requires, use-rule-returns-2}
 use Rattle.visits.proofs.+apply+use_free+use_live+use_rule+visit+visit_choice+visit_not+visit_open+visit_pair+visit_repetition+visit_sequence.Proof.VisitingChoice.{visit-choice-claims, visit-choice-visit-requires, visit-choice-end-of-requires, visit-choice-returns, visit-choice-visit-requires-2, visit-choice-returns-2}
 use Rattle.visits.proofs.+apply+use_free+use_live+use_rule+visit+visit_choice+visit_not+visit_open+visit_pair+visit_repetition+visit_sequence.Proof.VisitingNot.{visit-not-claims, visit-not-visit-requires, visit-not-end-of-requires, visit-not-returns, visit-not-pos-of-requires, visit-not-answer-requires, visit-not-returns-2, visit-not-answer-requires-2, visit-not-returns-3}
 use Rattle.visits.proofs.+apply+use_free+use_live+use_rule+visit+visit_choice+visit_not+visit_open+visit_pair+visit_repetition+visit_sequence.Proof.VisitingOpen.{visit-open-claims, visit-open-kind-of-requires, visit-open-a-of-requires, visit-open-b-of-requires, visit-open-pos-of-requires, visit-open-range-end-requires, visit-open-answer-requires, visit-open-a-of-requires-2, visit-open-use-rule-requires, visit-open-visit-pair-requires, visit-open-visit-pair-requires-2, visit-open-apply-requires, visit-open-returns, visit-open-returns-2, visit-open-returns-3, visit-open-returns-4, visit-open-returns-5}
@@ -149,21 +149,11 @@ pub +apply+use-free+use-live+use-rule+visit+visit-choice+visit-not+visit-open+vi
     (use-rule-mul-find-use t)
     (use-rule-add-find-use t)
     (use-rule-find-use-requires t)
-    (use-rule-sub-entry t)
-    (use-rule-cast-entry t)
-    (use-rule-mul-entry t)
-    (use-rule-add-list t)
-    (use-rule-mul-list t)
-    (use-rule-index-1-list t)
-    (use-rule-answer-requires t)
+    (use-rule-sub-held-by t)
+    (use-rule-held-by-requires t)
     (use-rule-returns t)
-    (use-rule-add-end t)
-    (use-rule-mul-end t)
-    (use-rule-index-1-end t)
-    (use-rule-answer-requires-2 t)
-    (use-rule-returns-2 t)
     (use-rule-use-live-requires t)
-    (use-rule-returns-3 t))
+    (use-rule-returns-2 t))
     (λ t. visit-lts.spec (visit-claims t)
     (visit-at t)
     visit.Post
