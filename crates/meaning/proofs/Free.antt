@@ -1,5 +1,5 @@
 -- In a free grammar no use is met while it is live: the bounded rules answer what the plain rules answer, so these answer on every line.
-use mathlib.Core.Path.{_≡_, refl, sym, subst, ap}
+use mathlib.Core.Path.{_≡_, refl, subst}
 use mathlib.Core.Logic.{_≢_, _⊎_, inl, inr}
 use Prim.Native.Nat.{ℕ, _<_, _≤_}
 use mathlib.Core.List.{List, []}
@@ -9,7 +9,7 @@ use native.Mathlib.Omega.{arith}
 use Rattle.meaning.specs.Grammar.{Node, rule, seq, choice, not, rep, Grammar, node, rootOf, root, Below, Closed, Trees, Answer, fail, ok, wrap, Note, noted, look}
 use Rattle.meaning.specs.Rules.{Plain, Goal, at, inc, Bounded}
 use Rattle.meaning.specs.Rules as R
-use Rattle.meaning.specs.Report.{MayBeEmpty, Starts, by-not, by-rep, by-choice, by-other, by-first, by-second, by-rule, Leads, here, on, Free}
+use Rattle.meaning.specs.Report.{Starts, by-not, by-rep, by-choice, by-other, by-first, by-second, by-rule, Leads, here, on, Free}
 use Rattle.meaning.proofs.Answers.{ends, never′, found}
 use Rattle.meaning.proofs.Notes.{look-cases}
 use Rattle.meaning.proofs.Chains.{round}

@@ -1,14 +1,14 @@
 -- Where a match ends by the bounded rules: not before its start, inside the line, and at its start only if the node may be empty.
-use mathlib.Core.Path.{_≡_, refl, sym, ap, _∙_}
+use mathlib.Core.Path.{_≡_}
 use mathlib.Core.Logic.{_⊎_, inl, inr}
-use Prim.Native.Nat.{ℕ, suc, _<_, _≤_}
+use Prim.Native.Nat.{ℕ, _<_, _≤_}
 use mathlib.Core.Bool.{true, and-eq-true-iff}
-use mathlib.Core.List.{List, []}
+use mathlib.Core.List.{List}
 use mathlib.Core.Option.{some}
 use lib.ListN.{length}
 use borrow.Author.Tests.{ltb-true}
 use native.Mathlib.Omega.{arith}
-use Rattle.meaning.specs.Grammar.{Node, empty, range, rule, seq, choice, not, rep, Grammar, node, root, Trees, no-trees, Answer, fail, ok, wrap, fits, Note, noted, look}
+use Rattle.meaning.specs.Grammar.{Node, empty, rule, choice, Grammar, node, root, Answer, fail, ok, wrap, fits, Note, noted, look}
 use Rattle.meaning.specs.Rules.{Goal, at, inc, Bounded}
 use Rattle.meaning.specs.Rules as R
 use Rattle.meaning.specs.Report.{MayBeEmpty, of-empty, of-not, of-rep, of-rule, of-seq, of-first, of-second}

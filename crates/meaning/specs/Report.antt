@@ -1,7 +1,7 @@
 -- 01, "The report": which nodes may be empty, what a node starts with, and which grammars are free.
 use Prim.Native.Nat.{ℕ, _<_}
 use lib.ListN.{length}
-use Rattle.meaning.specs.Grammar.{Node, empty, range, rule, seq, choice, not, rep, Grammar, node, root}
+use Rattle.meaning.specs.Grammar.{Node, empty, rule, seq, choice, not, rep, Grammar, node, root}
 
 -- 01: "may be empty (least reading): empty, not and repetition yes; range no; rule as its root; sequence if both are; choice if either is".
 pub data MayBeEmpty (g : Grammar) : Node → Type 0 where

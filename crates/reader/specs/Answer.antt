@@ -5,8 +5,8 @@ use mathlib.Core.Bool.{Bool, _&&_, _||_, cond}
 use mathlib.Core.List.{List, _++_}
 use lib.ListN.{length, drop, replicate}
 use lib.Dec.{ltb, eqb}
-use Rattle.meaning.specs.Grammar.{Trees, Answer, fail, ok}
-use Rattle.meaning.specs.Reading.{State, Run, effort, deep, done, read}
+use Rattle.meaning.specs.Grammar.{Trees, fail, ok}
+use Rattle.meaning.specs.Reading.{Run, effort, deep, done, read}
 use Rattle.sheet.specs.Table.{nodesOf, grammarOf}
 use Rattle.sheet.specs.Check.{checkOf}
 use Rattle.stored.specs.Stored.{recordsOf, storedLength, storedOf}

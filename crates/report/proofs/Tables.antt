@@ -5,7 +5,7 @@ use mathlib.Core.Logic.{_≢_}
 use Prim.Native.Nat.{ℕ, suc, _≤_, _<_}
 use native.Mathlib.Nat.{le-trans, lt-irrefl}
 use native.Mathlib.Omega.{arith}
-use Rattle.meaning.specs.Grammar.{node, rootOf}
+use Rattle.meaning.specs.Grammar.{node}
 use Rattle.sheet.specs.Table as table
 use Rattle.sheet.specs.Table.{nodesOf, rulesOf, kindOf, aOf, bOf, decode, grammarOf}
 use Rattle.sheet.proofs.Accepting.{node-as, root-is}

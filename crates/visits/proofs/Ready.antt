@@ -3,10 +3,11 @@ use mathlib.Core.Path.{_≡_, sym, subst, ap}
 use mathlib.Core.List.{List}
 use Prim.Native.Nat.{ℕ, _+_, _*_, _<_, _≤_}
 use native.Mathlib.Omega.{arith}
-use lib.ListN.{length}
+use lib.ListN.{length, getD}
 use Rattle.meaning.specs.Grammar.{node, rootOf, Below, Note}
 use Rattle.meaning.specs.Reading.{State, Run, Visit, apply}
-use Rattle.sheet.specs.Table.{decode}
+use Rattle.sheet.specs.Table.{nodeAt, decode}
+use Rattle.sheet.specs.Check.{Accepted}
 use Rattle.sheet.proofs.Accepting.{well-formed, node-count, rule-count, closed}
 use Rattle.sheet.proofs.Accepting.{root-is as root-of-grammar, node-as as node-of-table}
 use Rattle.visits.specs.Given.{Given, kindIn, aIn, bIn, rootIn, nodesIn, rulesIn, grammarIn, Fit}
@@ -41,6 +42,10 @@ module _ {given : Given} {line : List ℕ} where
   ready-loop r le g =
       let c = g .cells in
       record { fit = r .fit; words = g .words; node-in = r .node-in; pos-in = r .pos-in; open-in = r .open-in; made-in = g .made-in; top-in = omega arith }
+
+  -- What is asked for a node's kind and fields.
+  pub node-known : {w : List ℕ} {left live made top i pos : ℕ} → Ready given line w left live made top i pos → Accepted (given .table) × ((i < nodesIn given) × (getD (given .numbers) 2 0 ≡ nodeAt (rulesIn given) 0))
+  node-known r = (r .fit .accepted, (r .node-in, r .fit .first))
 
   -- Another node at the same position.
   pub ready-at : {w : List ℕ} {left live made top i pos : ℕ} (j : ℕ) → Ready given line w left live made top i pos → j < nodesIn given → Ready given line w left live made top j pos

@@ -1,5 +1,5 @@
 -- What a reading is given: the table of the sheet, and three numbers, the allowance, whether answers are kept, and where the nodes start in the table.
-use Prim.Native.Nat.{ℕ, _+_, _*_, _/_, _%_, _<_, _≤_}
+use Prim.Native.Nat.{ℕ, _+_, _*_, _/_, _%_, _≤_}
 use mathlib.Core.Path.{_≡_}
 use mathlib.Core.Bool.{Bool}
 use mathlib.Core.List.{List}

@@ -1,6 +1,5 @@
 -- What is asked of `apply`: its callees may be called, and whichever arm was taken, the node is applied and its answer kept.
 use Prim.Native.Nat.{ℕ, _<_}
-use borrow.Fn.PlainCycle.{is}
 use Rattle.visits.proofs.apply.Reads as apply
 use Rattle.visits.proofs.+apply+use_free+use_live+use_rule+visit+visit_choice+visit_not+visit_open+visit_pair+visit_repetition+visit_sequence.Lts-apply as apply-lts
 use Rattle.visits.proofs.use_free.Reads as use-free
@@ -24,7 +23,7 @@ use mathlib.Core.Path.{_≡_, refl, sym, _∙_}
 use Rattle.visits.specs.Given.{lent, rulesIn, leftIn, posIn}
 use Rattle.visits.specs.Says.{applies, Ends}
 use Rattle.visits.proofs.Steps.{came-at}
-use Rattle.visits.proofs.Ready.{ready-at, root-in}
+use Rattle.visits.proofs.Ready.{node-known, ready-at, root-in}
 use Rattle.visits.proofs.ByKind.{apply-rule, apply-not, apply-repetition, apply-empty, apply-above, apply-range, uses-free, rule-used, not-child, repetition-child, keeps-yes, keeps-no, above-six}
 use Rattle.sheet.proofs.Accepting.{well-formed}
 use Rattle.visits.proofs.Opening.{roomy, open-applied, plain-opens}
@@ -102,11 +101,7 @@ apply-met t c =
     (c .match .came)
 
 pub apply-kind-of-requires : (t : ℕ) → apply-lts.Need-kind-of-requires (apply-claims t) (apply-at t) apply.Post
-apply-kind-of-requires t c κs =
-    let at-start = c .before in
-    let ready = at-start .pre .1 .0 in
-    let fit = at-start .pre .1 .0 .fit in
-    (fit .accepted, (ready .node-in, fit .first))
+apply-kind-of-requires t c κs = node-known (c .before .pre .1 .0)
 
 pub apply-pos-of-requires : (t : ℕ) → apply-lts.Need-pos-of-requires (apply-claims t) (apply-at t) apply.Post
 apply-pos-of-requires t c κs = tt
@@ -115,18 +110,10 @@ pub apply-answer-requires : (t : ℕ) → apply-lts.Need-answer-requires (apply-
 apply-answer-requires t c κs = tt
 
 pub apply-a-of-requires : (t : ℕ) → apply-lts.Need-a-of-requires (apply-claims t) (apply-at t) apply.Post
-apply-a-of-requires t c κs =
-    let at-start = c .before .before .before .before .before in
-    let ready = at-start .pre .1 .0 in
-    let fit = at-start .pre .1 .0 .fit in
-    (fit .accepted, (ready .node-in, fit .first))
+apply-a-of-requires t c κs = node-known (c .before .before .before .before .before .pre .1 .0)
 
 pub apply-b-of-requires : (t : ℕ) → apply-lts.Need-b-of-requires (apply-claims t) (apply-at t) apply.Post
-apply-b-of-requires t c κs =
-    let at-start = c .before .before .before .before .before .before .before in
-    let ready = at-start .pre .1 .0 in
-    let fit = at-start .pre .1 .0 .fit in
-    (fit .accepted, (ready .node-in, fit .first))
+apply-b-of-requires t c κs = node-known (c .before .before .before .before .before .before .before .pre .1 .0)
 
 pub apply-pos-of-requires-2 : (t : ℕ) → apply-lts.Need-pos-of-requires-2 (apply-claims t) (apply-at t) apply.Post
 apply-pos-of-requires-2 t c κs = tt
@@ -143,11 +130,7 @@ pub apply-answer-requires-2 : (t : ℕ) → apply-lts.Need-answer-requires-2 (ap
 apply-answer-requires-2 t c κs = tt
 
 pub apply-a-of-requires-2 : (t : ℕ) → apply-lts.Need-a-of-requires-2 (apply-claims t) (apply-at t) apply.Post
-apply-a-of-requires-2 t c κs =
-    let at-start = c .before .before .before .before .before in
-    let ready = at-start .pre .1 .0 in
-    let fit = at-start .pre .1 .0 .fit in
-    (fit .accepted, (ready .node-in, fit .first))
+apply-a-of-requires-2 t c κs = node-known (c .before .before .before .before .before .pre .1 .0)
 
 pub apply-use-free-requires : (t : ℕ) → apply-lts.Need-use-free-requires (apply-claims t) (apply-at t) apply.Post
 apply-use-free-requires t c κs =
@@ -179,11 +162,7 @@ apply-visit-pair-requires-2 t c κs =
     (omega (arith, at-start .pre .0), (at-start .pre .1 .0, (at-start .pre .1 .1 .0, inr (sym (at-kind-of .ensures .0) ∙ at-match .keys5))))
 
 pub apply-a-of-requires-3 : (t : ℕ) → apply-lts.Need-a-of-requires-3 (apply-claims t) (apply-at t) apply.Post
-apply-a-of-requires-3 t c κs =
-    let at-start = c .before .before .before .before .before in
-    let ready = at-start .pre .1 .0 in
-    let fit = at-start .pre .1 .0 .fit in
-    (fit .accepted, (ready .node-in, fit .first))
+apply-a-of-requires-3 t c κs = node-known (c .before .before .before .before .before .pre .1 .0)
 
 pub apply-visit-not-requires : (t : ℕ) → apply-lts.Need-visit-not-requires (apply-claims t) (apply-at t) apply.Post
 apply-visit-not-requires t c κs =
@@ -198,11 +177,7 @@ apply-visit-not-requires t c κs =
     (omega (arith, at-start .pre .0), (ready-at _ ready (omega arith), at-start .pre .1 .1 .0))
 
 pub apply-a-of-requires-4 : (t : ℕ) → apply-lts.Need-a-of-requires-4 (apply-claims t) (apply-at t) apply.Post
-apply-a-of-requires-4 t c κs =
-    let at-start = c .before .before .before .before .before in
-    let ready = at-start .pre .1 .0 in
-    let fit = at-start .pre .1 .0 .fit in
-    (fit .accepted, (ready .node-in, fit .first))
+apply-a-of-requires-4 t c κs = node-known (c .before .before .before .before .before .pre .1 .0)
 
 pub apply-visit-repetition-requires : (t : ℕ) → apply-lts.Need-visit-repetition-requires (apply-claims t) (apply-at t) apply.Post
 apply-visit-repetition-requires t c κs =

@@ -17,7 +17,7 @@ use mathlib.Core.Logic.{inl, inr}
 use mathlib.Core.Path.{refl, sym, _∙_}
 use Rattle.visits.specs.Given.{lent, rulesIn, posIn}
 use Rattle.visits.proofs.Steps.{came-at}
-use Rattle.visits.proofs.Ready.{ready-at, root-in}
+use Rattle.visits.proofs.Ready.{node-known, ready-at, root-in}
 use Rattle.visits.proofs.ByKind.{apply-rule, apply-range, rule-used, not-both}
 use Rattle.visits.proofs.Opening.{plain-opens}
 use Rattle.visits.proofs.+apply+use_free+use_live+use_rule+visit+visit_choice+visit_not+visit_open+visit_pair+visit_repetition+visit_sequence.Proof.Ranks.{apply-below, use-rule-below, visit-open-at, visit-pair-below}
@@ -26,22 +26,13 @@ abbrev pub visit-open-claims : ℕ → visit-open-lts.Claims
 visit-open-claims t = (kind-of-reads.Asked, kind-of-reads.Learnt, a-of-reads.Asked, a-of-reads.Learnt, b-of-reads.Asked, b-of-reads.Learnt, pos-of-reads.Asked, pos-of-reads.Learnt, range-end-reads.Asked, range-end-reads.Learnt, answer-reads.Asked, answer-reads.Learnt, use-rule-below t, use-rule.Post, visit-pair-below t, visit-pair.Post, apply-below t, apply.Post)
 
 pub visit-open-kind-of-requires : (t : ℕ) → visit-open-lts.Need-kind-of-requires (visit-open-claims t) (visit-open-at t) visit-open.Post
-visit-open-kind-of-requires t c κs =
-    let at-start = c .before in
-    let ready = at-start .pre .1 .0 in
-    (ready .fit .accepted, (ready .node-in, ready .fit .first))
+visit-open-kind-of-requires t c κs = node-known (c .before .pre .1 .0)
 
 pub visit-open-a-of-requires : (t : ℕ) → visit-open-lts.Need-a-of-requires (visit-open-claims t) (visit-open-at t) visit-open.Post
-visit-open-a-of-requires t c κs =
-    let at-start = c .before .before .before .before .before in
-    let ready = at-start .pre .1 .0 in
-    (ready .fit .accepted, (ready .node-in, ready .fit .first))
+visit-open-a-of-requires t c κs = node-known (c .before .before .before .before .before .pre .1 .0)
 
 pub visit-open-b-of-requires : (t : ℕ) → visit-open-lts.Need-b-of-requires (visit-open-claims t) (visit-open-at t) visit-open.Post
-visit-open-b-of-requires t c κs =
-    let at-start = c .before .before .before .before .before .before .before in
-    let ready = at-start .pre .1 .0 in
-    (ready .fit .accepted, (ready .node-in, ready .fit .first))
+visit-open-b-of-requires t c κs = node-known (c .before .before .before .before .before .before .before .pre .1 .0)
 
 pub visit-open-pos-of-requires : (t : ℕ) → visit-open-lts.Need-pos-of-requires (visit-open-claims t) (visit-open-at t) visit-open.Post
 visit-open-pos-of-requires t c κs = tt
@@ -57,10 +48,7 @@ pub visit-open-answer-requires : (t : ℕ) → visit-open-lts.Need-answer-requir
 visit-open-answer-requires t c κs = tt
 
 pub visit-open-a-of-requires-2 : (t : ℕ) → visit-open-lts.Need-a-of-requires-2 (visit-open-claims t) (visit-open-at t) visit-open.Post
-visit-open-a-of-requires-2 t c κs =
-    let at-start = c .before .before .before .before .before in
-    let ready = at-start .pre .1 .0 in
-    (ready .fit .accepted, (ready .node-in, ready .fit .first))
+visit-open-a-of-requires-2 t c κs = node-known (c .before .before .before .before .before .pre .1 .0)
 
 pub visit-open-use-rule-requires : (t : ℕ) → visit-open-lts.Need-use-rule-requires (visit-open-claims t) (visit-open-at t) visit-open.Post
 visit-open-use-rule-requires t c κs =

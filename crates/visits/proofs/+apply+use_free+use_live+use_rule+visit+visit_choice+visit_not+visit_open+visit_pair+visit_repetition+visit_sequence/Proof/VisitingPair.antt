@@ -11,7 +11,7 @@ use Prim.Native.Nat.{_-_}
 use native.Mathlib.Omega.{arith}
 use mathlib.Core.Logic.{⊎-elim}
 use mathlib.Core.Path.{sym, _∙_}
-use Rattle.visits.proofs.Ready.{ready-at}
+use Rattle.visits.proofs.Ready.{node-known, ready-at}
 use Rattle.visits.proofs.ByKind.{apply-sequence, apply-choice, sequence-children, choice-children}
 use Rattle.visits.proofs.+apply+use_free+use_live+use_rule+visit+visit_choice+visit_not+visit_open+visit_pair+visit_repetition+visit_sequence.Proof.Ranks.{visit-choice-below, visit-pair-at, visit-sequence-below}
 
@@ -19,22 +19,13 @@ abbrev pub visit-pair-claims : ℕ → visit-pair-lts.Claims
 visit-pair-claims t = (a-of-reads.Asked, a-of-reads.Learnt, b-of-reads.Asked, b-of-reads.Learnt, kind-of-reads.Asked, kind-of-reads.Learnt, visit-sequence-below t, visit-sequence.Post, visit-choice-below t, visit-choice.Post)
 
 pub visit-pair-a-of-requires : (t : ℕ) → visit-pair-lts.Need-a-of-requires (visit-pair-claims t) (visit-pair-at t) visit-pair.Post
-visit-pair-a-of-requires t c κs =
-    let at-start = c .before in
-    let ready = at-start .pre .1 .0 in
-    (ready .fit .accepted, (ready .node-in, ready .fit .first))
+visit-pair-a-of-requires t c κs = node-known (c .before .pre .1 .0)
 
 pub visit-pair-b-of-requires : (t : ℕ) → visit-pair-lts.Need-b-of-requires (visit-pair-claims t) (visit-pair-at t) visit-pair.Post
-visit-pair-b-of-requires t c κs =
-    let at-start = c .before .before .before in
-    let ready = at-start .pre .1 .0 in
-    (ready .fit .accepted, (ready .node-in, ready .fit .first))
+visit-pair-b-of-requires t c κs = node-known (c .before .before .before .pre .1 .0)
 
 pub visit-pair-kind-of-requires : (t : ℕ) → visit-pair-lts.Need-kind-of-requires (visit-pair-claims t) (visit-pair-at t) visit-pair.Post
-visit-pair-kind-of-requires t c κs =
-    let at-start = c .before .before .before .before .before in
-    let ready = at-start .pre .1 .0 in
-    (ready .fit .accepted, (ready .node-in, ready .fit .first))
+visit-pair-kind-of-requires t c κs = node-known (c .before .before .before .before .before .pre .1 .0)
 
 pub visit-pair-visit-sequence-requires : (t : ℕ) → visit-pair-lts.Need-visit-sequence-requires (visit-pair-claims t) (visit-pair-at t) visit-pair.Post
 visit-pair-visit-sequence-requires t c κs =
