@@ -5,11 +5,11 @@ use mathlib.Core.List.{List}
 use Prim.Native.Nat.{ℕ, _+_, _*_, _-_, _<_, _≤_}
 use native.Mathlib.Omega.{arith}
 use lib.ListN.{length, getD}
-use Rattle.meaning.specs.Grammar.{no-trees, tree, fail, ok, rootOf, Note}
+use Rattle.meaning.specs.Grammar.{no-trees, tree, Answer, fail, ok, rootOf, Note}
 use Rattle.meaning.specs.Reading.{State, effort, Visit}
 use Rattle.cells.specs.Cells.{treesAt}
 use Rattle.visits.specs.Given.{Given, keepsIn, allowanceIn, grammarIn, leftIn, liveIn, Fit}
-use Rattle.visits.specs.Words.{keyOf, topIn, madeIn, Words, Added}
+use Rattle.visits.specs.Words.{keyOf, topIn, madeIn, HeldAs, Words, Added}
 use Rattle.visits.specs.Says.{FAILED, STOPPED, endIn, listIn, Came, after-visit, reading, grows, Starts, Ends, EndsVisit}
 use Rattle.visits.proofs.Frame.{made-same, made-words}
 use Rattle.visits.proofs.Steps.{came-at}
@@ -27,102 +27,142 @@ GrowingIn given line spot root rule pos w₀ end₀ w end = Growing given line (
 pub room-tree : (given : Given) (line : List ℕ) {w : List ℕ} {live : ℕ} → Fit given line → Words given line w live (topIn w) → topIn w < allowanceIn given → (2048 + 4 * topIn w + 3 < length w) × (topIn w < 1073741823)
 room-tree given line fit words low = let r = words .room in let a = fit .allowance in (omega arith, omega arith)
 
-module _ (given : Given) (line w : List ℕ) (spot root rule pos : ℕ) (ready : Starts given line w spot root pos) (room : liveIn spot + leftIn spot ≤ 512) (small : rule < 64)
-    (rooted : root ≡ rootOf (grammarIn given) rule) (fresh : (i : ℕ) → i < liveIn spot → getD w (i * 3) 0 ≢ keyOf rule pos) where
+-- A use: what is lent and the line, the words where it begins, where it stands, its rule and the rule's root.
+pub record Use : Type 0 where
+  pub given : Given
+  pub line : List ℕ
+  pub start : List ℕ
+  pub spot : ℕ
+  pub pos : ℕ
+  pub rule : ℕ
+  pub root : ℕ
+
+module _ (u : Use) where
+  open Use u using (given, line, start, spot, pos, rule, root)
+
+  -- It may become live at the words w: its root may be visited, there is room, and no live use is the same.
+  pub record Tried (w : List ℕ) : Type 0 where
+    pub ready : Starts given line w spot root pos
+    pub room : liveIn spot + leftIn spot ≤ 512
+    pub small : rule < 64
+    pub rooted : root ≡ rootOf (grammarIn given) rule
+    pub fresh : (i : ℕ) → i < liveIn spot → getD w (i * 3) 0 ≢ keyOf rule pos
+
+  -- Its root was visited from the words w with a list and its end held: the visit answers r and leaves the words w₂.
+  pub record Attempt (w : List ℕ) (end list : ℕ) (w₂ : List ℕ) (r : ℕ) : Type 0 where
+    pub live : List ℕ
+    pub put : live ≡ usePut w (liveIn spot * 3) (keyOf rule pos) end list
+    pub visit : EndsVisit given line live w₂ (spot + 1024) r (λ l s. reading given line (leftIn (spot + 1024)) l root pos s)
+
+  -- The tree of the match r is made: it is the last list of the words w₃.
+  pub record Planted (w₂ : List ℕ) (r : ℕ) (w₃ : List ℕ) : Type 0 where
+    pub list : ℕ
+    pub added : Added w₂ w₃ (topIn w₂) list (topIn w₃) (tree rule pos (endIn r) (treesAt w₂ (listIn r)) no-trees)
+    pub next : list ≡ topIn w₂ + 1
+    pub top : topIn w₃ ≡ list
+
+  -- The first attempt matched, with the answer r, and its tree is made: the loop begins at the words w₃.
+  pub record Begun (r : ℕ) (w₃ : List ℕ) : Type 0 where
+    pub tried : Tried start
+    pub seen : List ℕ
+    pub first : Attempt start 0 0 seen r
+    pub short : endIn r < STOPPED
+    pub made : Planted seen r w₃
+
+  -- One turn of the loop, from the words w with a match up to `end` held: the next attempt answers q and leaves the words w₂.
+  pub record Turned (r : ℕ) (w₃ w : List ℕ) (end : ℕ) (w₂ : List ℕ) (q : ℕ) : Type 0 where
+    pub begun : Begun r w₃
+    pub growing : GrowingIn given line spot root rule pos w₃ (endIn r) w end
+    pub again : Attempt w end (topIn w) w₂ q
+
   abbrev visiting : List Note → Visit
   visiting = reading given line (leftIn spot)
 
   none-left : (l : List Note) (s : State) → s .left ≡ 0 → visiting l root pos s ≡ effort pos s
   none-left l s e = visit-none-left (grammarIn given) line (keepsIn given) l root pos s (leftIn spot) e
 
-  few : liveIn spot * 3 ≤ 2042
-  few = omega (arith, room)
+  made-stays : {w₂ w₃ : List ℕ} {r : ℕ} → Planted w₂ r w₃ → madeIn w₃ ≡ madeIn w₂
+  made-stays p = p .added .below 2043 (omega arith) (omega arith)
+
+  -- What an attempt comes to, while h is held.
+  attempted : {w w₂ : List ℕ} {end list r : ℕ} → Tried w → Attempt w end list w₂ r → end ≤ length line → list ≤ topIn w → (h : Answer) → HeldAs end list (treesAt w list) rule pos h
+      → EndsVisit given line w w₂ spot r (λ l s. attempt given line visiting root rule pos l h s)
+  attempted {w} {end = end} {list} {r} t a inside below h held = record {
+    came = while-live given line (t .ready .fit) rule pos end list (t .ready .words) (omega (arith, t .room)) inside below (t .small) h held (t .fresh) (λ l s. visiting l root pos s) (a .put)
+        (came-live given line w spot root pos rule end list (t .ready) (t .room) inside below (a .put) r (a .visit));
+    cells = cells-live given line w spot root pos rule end list (t .ready) (t .room) inside below (a .put) r (a .visit);
+    fewer = fewer-live given line w spot root pos rule end list (t .ready) (t .room) inside below (a .put) r (a .visit);
+  }
 
   -- The first attempt, while a failure is held.
-  module _ {w₁ w₂ : List ℕ} (put : w₁ ≡ usePut w (liveIn spot * 3) (keyOf rule pos) 0 0) (r : ℕ)
-      (first : EndsVisit given line w₁ w₂ (spot + 1024) r (λ l s. reading given line (leftIn (spot + 1024)) l root pos s)) where
-    pub first-attempt : Came given line w w₂ (liveIn spot) (madeIn w) (topIn w) (after-visit r w₂) (λ l s. attempt given line visiting root rule pos l fail s)
-    first-attempt =
-        while-live given line (ready .fit) rule pos 0 0 (ready .words) (omega (arith, room)) (omega arith) (omega arith) small fail refl fresh (λ l s. visiting l root pos s) put
-        (came-live given line w spot root pos rule 0 0 ready room (omega arith) (omega arith) put r first)
+  module _ (t : Tried start) {w₂ : List ℕ} {r : ℕ} (a : Attempt start 0 0 w₂ r) where
+    pub first-attempt : EndsVisit given line start w₂ spot r (λ l s. attempt given line visiting root rule pos l fail s)
+    first-attempt = attempted t a (omega arith) (omega arith) fail refl
 
-    pub first-ends : STOPPED ≤ endIn r → Ends given line w w₂ spot r (λ l s. grows given line (leftIn spot) l rule pos s)
-    first-ends h = record {
-      came = first-out given line (ready .fit) visiting root rule pos none-left rooted fresh first-attempt h;
-      cells = cells-live given line w spot root pos rule 0 0 ready room (omega arith) (omega arith) put r first;
-    }
+    pub first-ends : STOPPED ≤ endIn r → Ends given line start w₂ spot r (λ l s. grows given line (leftIn spot) l rule pos s)
+    first-ends h = record { came = first-out given line (t .ready .fit) visiting root rule pos none-left (t .rooted) (t .fresh) (first-attempt .came) h; cells = first-attempt .cells }
 
-    module _ (h : endIn r < STOPPED) where
-      first-fewer : topIn w₂ + madeIn w < topIn w + madeIn w₂
-      first-fewer = fewer-live given line w spot root pos rule 0 0 ready room (omega arith) (omega arith) put r first h
+    pub first-low : endIn r < STOPPED → topIn w₂ < allowanceIn given
+    first-low h = omega (arith, first-attempt .fewer h, first-attempt .came .made-in, t .ready .top-in)
 
-      pub first-low : topIn w₂ < allowanceIn given
-      first-low = omega (arith, first-fewer, first-attempt .made-in, ready .top-in)
+  -- Its tree is made, and the loop begins.
+  module _ {r : ℕ} {w₃ : List ℕ} (b : Begun r w₃) where
+    pub loop-begins : GrowingIn given line spot root rule pos w₃ (endIn r) w₃ (endIn r)
+    loop-begins =
+        let one = first-attempt (b .tried) (b .first) .came in
+        let held : treesAt w₃ (topIn w₃) ≡ tree rule pos (endIn r) (treesAt (b .seen) (listIn r)) no-trees = rw (b .made .top) (b .made .added .is) in
+        begins given line (b .tried .ready .fit) visiting root rule pos none-left
+        (made-words given line (b .tried .ready .fit) (omega (arith, b .tried .room)) (first-low (b .tried) (b .first) (b .short)) (b .made .added) (one .words)) (one .end-in (b .short)) (omega (arith, b .made .top, b .made .next)) (omega (arith, made-stays (b .made), one .made-in)) held
 
-      -- Its tree is made, and the loop begins.
-      module _ {w₃ : List ℕ} {list : ℕ} (added : Added w₂ w₃ (topIn w₂) list (topIn w₃) (tree rule pos (endIn r) (treesAt w₂ (listIn r)) no-trees)) (next : list ≡ topIn w₂ + 1) (top : topIn w₃ ≡ list) where
-        made-stays : madeIn w₃ ≡ madeIn w₂
-        made-stays = added .below 2043 (omega arith) (omega arith)
+    -- At each turn the use may become live anew.
+    module _ {w : List ℕ} {end : ℕ} (g : GrowingIn given line spot root rule pos w₃ (endIn r) w end) where
+      tried-again : Tried w
+      tried-again = record {
+        ready = ready-loop (b .tried .ready) (omega (arith, first-attempt (b .tried) (b .first) .fewer (b .short), b .tried .ready .top-in, b .made .top, b .made .next, made-stays (b .made))) g;
+        room = b .tried .room;
+        small = b .tried .small;
+        rooted = b .tried .rooted;
+        fresh = fresh-same given line (g .same) (fresh-same given line (made-same given line {live = liveIn spot} (b .tried .ready .fit) (omega (arith, b .tried .room)) (first-low (b .tried) (b .first) (b .short)) (b .made .added)) (fresh-same given line (first-attempt (b .tried) (b .first) .came .same) (b .tried .fresh)));
+      }
 
-        top-next : topIn w₃ ≡ topIn w₂ + 1
-        top-next = top ∙ next
+      pub starts-next : {w₁ : List ℕ} → w₁ ≡ usePut w (liveIn spot * 3) (keyOf rule pos) end (topIn w) → Starts given line w₁ (spot + 1024) root pos
+      starts-next put = starts-live given line w spot root pos rule end (topIn w) (tried-again .ready) (b .tried .room) (g .end-in) (omega arith) put
 
-        pub loop-begins : GrowingIn given line spot root rule pos w₃ (endIn r) w₃ (endIn r)
-        loop-begins =
-            let held : treesAt w₃ (topIn w₃) ≡ tree rule pos (endIn r) (treesAt w₂ (listIn r)) no-trees = rw top (added .is) in
-            begins given line (ready .fit) visiting root rule pos none-left
-            (made-words given line (ready .fit) few first-low added (first-attempt .words)) (first-attempt .end-in h) (omega (arith, top-next)) (omega (arith, made-stays, first-attempt .made-in)) held
+  -- One turn.
+  module _ {r : ℕ} {w₃ w : List ℕ} {end : ℕ} {w₂ : List ℕ} {q : ℕ} (n : Turned r w₃ w end w₂ q) where
+    pub next-attempt : EndsVisit given line w w₂ spot q (λ l s. attempt given line visiting root rule pos l (ok end (kids (treesAt w (topIn w)))) s)
+    next-attempt = attempted (tried-again (n .begun) (n .growing)) (n .again) (n .growing .end-in) (omega arith) (ok end (kids (treesAt w (topIn w)))) (λ z. let t = n .growing .top-in in omega arith, refl, n .growing .held)
 
-        -- One turn.
-        module _ {w₄ : List ℕ} {end : ℕ} (g : GrowingIn given line spot root rule pos w₃ (endIn r) w₄ end) where
-          starts-again : Starts given line w₄ spot root pos
-          starts-again = ready-loop ready (omega (arith, first-fewer, ready .top-in, top-next, made-stays)) g
+    -- A way out of the loop is the end of the whole use.
+    whole-ends : (a : ℕ) → Came given line w₃ w₂ (liveIn spot) (madeIn w₃) (topIn w₃) (after-visit a w₂) (λ l s. grown given line visiting root rule pos l (s .left) (endIn r) (kids (treesAt w₃ (topIn w₃))) s)
+        → Ends given line start w₂ spot a (λ l s. grows given line (leftIn spot) l rule pos s)
+    whole-ends a c =
+        let b = n .begun in
+        let one = first-attempt (b .tried) (b .first) in
+        let top-next : topIn w₃ ≡ topIn (b .seen) + 1 = b .made .top ∙ b .made .next in
+        record {
+          came = first-grown given line (b .tried .ready .fit) visiting root rule pos none-left (b .tried .rooted) (b .tried .fresh) (one .came) (b .short) (omega (arith, b .tried .room)) (first-low (b .tried) (b .first) (b .short))
+              (rw (b .made .top, b .made .next) at (b .made .added)) (rw (made-stays (b .made), top-next) at c);
+          cells = omega (arith, next-attempt .cells, n .growing .cells, one .fewer (b .short), top-next, made-stays (b .made));
+        }
 
-          still-fresh : (i : ℕ) → i < liveIn spot → getD w₄ (i * 3) 0 ≢ keyOf rule pos
-          still-fresh = fresh-same given line (g .same) (fresh-same given line (made-same given line {live = liveIn spot} (ready .fit) few first-low added) (fresh-same given line (first-attempt .same) fresh))
+    pub next-stops : endIn q ≡ STOPPED → Ends given line start w₂ spot q (λ l s. grows given line (leftIn spot) l rule pos s)
+    next-stops e = whole-ends q (out-stop given line (n .begun .tried .ready .fit) visiting root rule pos none-left (n .growing) (next-attempt .came) e)
 
-          module _ {w₅ : List ℕ} (put₂ : w₅ ≡ usePut w₄ (liveIn spot * 3) (keyOf rule pos) end (topIn w₄)) where
-            pub starts-next : Starts given line w₅ (spot + 1024) root pos
-            starts-next = starts-live given line w₄ spot root pos rule end (topIn w₄) starts-again room (g .end-in) (omega arith) put₂
+    pub held-ends : (a : ℕ) → endIn a ≡ end → listIn a ≡ topIn w → (endIn q ≡ FAILED) ⊎ (endIn q ≤ end) → Ends given line start w₂ spot a (λ l s. grows given line (leftIn spot) l rule pos s)
+    held-ends a e f c = whole-ends a (came-at given line (n .begun .tried .ready .fit .short) (endIn a) (listIn a) (topIn w₂) (madeIn w₂) e f refl refl (out-held given line (n .begun .tried .ready .fit) visiting root rule pos none-left (n .growing) (next-attempt .came) c))
 
-            module _ {w₆ : List ℕ} (q : ℕ) (again : EndsVisit given line w₅ w₆ (spot + 1024) q (λ l s. reading given line (leftIn (spot + 1024)) l root pos s)) where
-              pub next-attempt : Came given line w₄ w₆ (liveIn spot) (madeIn w₄) (topIn w₄) (after-visit q w₆) (λ l s. attempt given line visiting root rule pos l (ok end (kids (treesAt w₄ (topIn w₄)))) s)
-              next-attempt =
-                  while-live given line (ready .fit) rule pos end (topIn w₄) (g .words) (omega (arith, room)) (g .end-in) (omega arith) small
-                  (ok end (kids (treesAt w₄ (topIn w₄)))) (λ z. let t = g .top-in in omega arith, refl, g .held) still-fresh (λ l s. visiting l root pos s) put₂
-                  (came-live given line w₄ spot root pos rule end (topIn w₄) starts-again room (g .end-in) (omega arith) put₂ q again)
+    -- A longer match: its tree is made, and the loop goes on.
+    module _ (short : endIn q < STOPPED) where
+      pub next-low : topIn w₂ < allowanceIn given
+      next-low = omega (arith, next-attempt .fewer short, next-attempt .came .made-in, tried-again (n .begun) (n .growing) .ready .top-in)
 
-              -- A way out of the loop is the end of the whole use.
-              whole-ends : (a : ℕ) → Came given line w₃ w₆ (liveIn spot) (madeIn w₃) (topIn w₃) (after-visit a w₆) (λ l s. grown given line visiting root rule pos l (s .left) (endIn r) (kids (treesAt w₃ (topIn w₃))) s)
-                  → Ends given line w w₆ spot a (λ l s. grows given line (leftIn spot) l rule pos s)
-              whole-ends a c = record {
-                came = first-grown given line (ready .fit) visiting root rule pos none-left rooted fresh first-attempt h few first-low (rw (top, next) at added) (rw (made-stays, top-next) at c);
-                cells = omega (arith, cells-live given line w₄ spot root pos rule end (topIn w₄) starts-again room (g .end-in) (omega arith) put₂ q again, g .cells, first-fewer, top-next, made-stays);
-              }
+      module _ {w₄ : List ℕ} (p : Planted w₂ q w₄) where
+        pub loop-turns : end < endIn q → GrowingIn given line spot root rule pos w₃ (endIn r) w₄ (endIn q)
+        loop-turns lt =
+            let top-next : topIn w₄ ≡ topIn w₂ + 1 = p .top ∙ p .next in
+            rw (top-next, made-stays p) (turns given line (n .begun .tried .ready .fit) visiting root rule pos none-left (n .growing) (next-attempt .came) lt short (omega (arith, n .begun .tried .room)) next-low (next-attempt .fewer short) (rw (p .top, p .next) at (p .added)))
 
-              pub next-stops : endIn q ≡ STOPPED → Ends given line w w₆ spot q (λ l s. grows given line (leftIn spot) l rule pos s)
-              next-stops e = whole-ends q (out-stop given line (ready .fit) visiting root rule pos none-left g next-attempt e)
-
-              pub held-ends : (a : ℕ) → endIn a ≡ end → listIn a ≡ topIn w₄ → (endIn q ≡ FAILED) ⊎ (endIn q ≤ end) → Ends given line w w₆ spot a (λ l s. grows given line (leftIn spot) l rule pos s)
-              held-ends a e f c = whole-ends a (came-at given line (ready .fit .short) (endIn a) (listIn a) (topIn w₆) (madeIn w₆) e f refl refl (out-held given line (ready .fit) visiting root rule pos none-left g next-attempt c))
-
-              -- A longer match: its tree is made, and the loop goes on.
-              module _ (lt : end < endIn q) (short : endIn q < STOPPED) where
-                next-fewer : topIn w₆ + madeIn w₄ < topIn w₄ + madeIn w₆
-                next-fewer = fewer-live given line w₄ spot root pos rule end (topIn w₄) starts-again room (g .end-in) (omega arith) put₂ q again short
-
-                pub next-low : topIn w₆ < allowanceIn given
-                next-low = omega (arith, next-fewer, next-attempt .made-in, starts-again .top-in)
-
-                module _ {w₇ : List ℕ} {list₂ : ℕ} (added₂ : Added w₆ w₇ (topIn w₆) list₂ (topIn w₇) (tree rule pos (endIn q) (treesAt w₆ (listIn q)) no-trees)) (next₂ : list₂ ≡ topIn w₆ + 1) (top₂ : topIn w₇ ≡ list₂) where
-                  made-stays₂ : madeIn w₇ ≡ madeIn w₆
-                  made-stays₂ = added₂ .below 2043 (omega arith) (omega arith)
-
-                  pub loop-turns : GrowingIn given line spot root rule pos w₃ (endIn r) w₇ (endIn q)
-                  loop-turns =
-                      let top-next₂ : topIn w₇ ≡ topIn w₆ + 1 = top₂ ∙ next₂ in
-                      rw (top-next₂, made-stays₂) (turns given line (ready .fit) visiting root rule pos none-left g next-attempt lt short few next-low next-fewer (rw (top₂, next₂) at added₂))
-
-                  -- Visits were made.
-                  pub loop-nearer : allowanceIn given - madeIn w₇ < allowanceIn given - madeIn w₄
-                  loop-nearer = omega (arith, next-fewer, made-stays₂, next-attempt .made-in, next-attempt .top-up)
+        -- Visits were made.
+        pub loop-nearer : allowanceIn given - madeIn w₄ < allowanceIn given - madeIn w
+        loop-nearer = omega (arith, next-attempt .fewer short, made-stays p, next-attempt .came .made-in, next-attempt .came .top-up)

@@ -18,8 +18,8 @@ module _ (given : Given) (line w : List ℕ) (spot root rule pos found r : ℕ) 
   live : found - 1 < liveIn spot
   live = omega (arith, some, search .within)
 
-  pub held-ends : Ends given line w w spot r (λ l s. uses given line (leftIn spot) l rule pos s)
-  held-ends = record {
+  pub answers-held : Ends given line w w spot r (λ l s. uses given line (leftIn spot) l rule pos s)
+  answers-held = record {
     came = by-same (getD w ((found - 1) * 3 + 2) 0) 0
         (λ e.
         came-at given line (ready .fit .short) (endIn r) (listIn r) (topIn w) (madeIn w) (holds .failed e .0) (holds .failed e .1) refl refl

@@ -13,7 +13,7 @@ use Rattle.sheet.proofs.Accepting.{well-formed}
 use Rattle.visits.specs.Given.{liveIn, posIn}
 use Rattle.visits.specs.Words.{keyOf, Found}
 use Rattle.visits.proofs.ByKind.{uses-grows}
-use Rattle.visits.proofs.Holding.{held-ends}
+use Rattle.visits.proofs.Holding.{answers-held}
 use Rattle.visits.proofs.+apply+use_free+use_live+use_rule+visit+visit_choice+visit_not+visit_open+visit_pair+visit_repetition+visit_sequence.Proof.Ranks.{use-live-below, use-rule-at}
 
 abbrev pub use-rule-claims : ℕ → use-rule-lts.Claims
@@ -77,7 +77,7 @@ use-rule-returns t c =
     let some = let q : 0 < c .before .before .before .find-use .result = omega (arith, c .before .before .if1 .taken) in q in
     let holds = rw same at (c .held-by .ensures .0) in
     let kept = c .held-by .ensures .1 in
-    (rw (ap (λ w. w .now) kept, same) (held-ends _ _ _ _ _ _ _ _ _ (start .pre .1 .0) (start .pre .1 .1 .1) (use-rule-small t start) (use-rule-found t (c .before .before .before)) some holds), ap (λ w. w .name) kept ∙ ap (λ w. w .name) (c .before .before .before .find-use .ensures .1))
+    (rw (ap (λ w. w .now) kept, same) (answers-held _ _ _ _ _ _ _ _ _ (start .pre .1 .0) (start .pre .1 .1 .1) (use-rule-small t start) (use-rule-found t (c .before .before .before)) some holds), ap (λ w. w .name) kept ∙ ap (λ w. w .name) (c .before .before .before .find-use .ensures .1))
 
 pub use-rule-use-live-requires : (t : ℕ) → use-rule-lts.Need-use-live-requires (use-rule-claims t) (use-rule-at t) use-rule.Post
 use-rule-use-live-requires t c κs =
