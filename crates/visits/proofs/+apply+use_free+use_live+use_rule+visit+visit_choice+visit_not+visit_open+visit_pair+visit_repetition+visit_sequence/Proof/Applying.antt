@@ -29,11 +29,38 @@ use Rattle.sheet.proofs.Accepting.{well-formed}
 use Rattle.visits.proofs.Opening.{roomy, open-applied, plain-opens}
 use Rattle.visits.proofs.+apply+use_free+use_live+use_rule+visit+visit_choice+visit_not+visit_open+visit_pair+visit_repetition+visit_sequence.Proof.Ranks.{apply-at, use-free-below, visit-not-below, visit-pair-below, visit-repetition-below}
 
-abbrev pub apply-claims : ℕ → apply-lts.Claims
-apply-claims t = (kind-of-reads.Asked, kind-of-reads.Learnt, pos-of-reads.Asked, pos-of-reads.Learnt, answer-reads.Asked, answer-reads.Learnt, a-of-reads.Asked, a-of-reads.Learnt, b-of-reads.Asked, b-of-reads.Learnt, range-end-reads.Asked, range-end-reads.Learnt, use-free-below t, use-free.Post, visit-pair-below t, visit-pair.Post, visit-not-below t, visit-not.Post, visit-repetition-below t, visit-repetition.Post, end-of-reads.Asked, end-of-reads.Learnt, list-of-reads.Asked, list-of-reads.Learnt, keep-reads.Asked, keep-reads.Learnt)
+abbrev apply-claims : ℕ → apply-lts.Claims
+apply-claims t = (
+  kind-of-reads.Asked,
+  kind-of-reads.Learnt,
+  pos-of-reads.Asked,
+  pos-of-reads.Learnt,
+  answer-reads.Asked,
+  answer-reads.Learnt,
+  a-of-reads.Asked,
+  a-of-reads.Learnt,
+  b-of-reads.Asked,
+  b-of-reads.Learnt,
+  range-end-reads.Asked,
+  range-end-reads.Learnt,
+  use-free-below t,
+  use-free.Post,
+  visit-pair-below t,
+  visit-pair.Post,
+  visit-not-below t,
+  visit-not.Post,
+  visit-repetition-below t,
+  visit-repetition.Post,
+  end-of-reads.Asked,
+  end-of-reads.Learnt,
+  list-of-reads.Asked,
+  list-of-reads.Learnt,
+  keep-reads.Asked,
+  keep-reads.Learnt,
+)
 
 -- Where the arms of the decision over the kind meet: whichever was taken, the node is applied.
-pub apply-met : (t : ℕ) (c : apply-lts.At-match-came (apply-claims t) (apply-at t) apply.Post)
+apply-met : (t : ℕ) (c : apply-lts.At-match-came (apply-claims t) (apply-at t) apply.Post)
     → Ends
     (lent (c .before .before .before .args .table .now .now) (c .before .before .before .args .given .now)) (c .before .before .before .args .line .now .now)
     (c .before .before .before .args .work .now .now) (c .match .work .now) (c .before .before .before .args .spot) (c .match .done)
@@ -100,25 +127,25 @@ apply-met t c =
     ))))))))
     (c .match .came)
 
-pub apply-kind-of-requires : (t : ℕ) → apply-lts.Need-kind-of-requires (apply-claims t) (apply-at t) apply.Post
+apply-kind-of-requires : (t : ℕ) → apply-lts.Need-kind-of-requires (apply-claims t) (apply-at t) apply.Post
 apply-kind-of-requires t c κs = node-known (c .before .pre .1 .0)
 
-pub apply-pos-of-requires : (t : ℕ) → apply-lts.Need-pos-of-requires (apply-claims t) (apply-at t) apply.Post
+apply-pos-of-requires : (t : ℕ) → apply-lts.Need-pos-of-requires (apply-claims t) (apply-at t) apply.Post
 apply-pos-of-requires t c κs = tt
 
-pub apply-answer-requires : (t : ℕ) → apply-lts.Need-answer-requires (apply-claims t) (apply-at t) apply.Post
+apply-answer-requires : (t : ℕ) → apply-lts.Need-answer-requires (apply-claims t) (apply-at t) apply.Post
 apply-answer-requires t c κs = tt
 
-pub apply-a-of-requires : (t : ℕ) → apply-lts.Need-a-of-requires (apply-claims t) (apply-at t) apply.Post
+apply-a-of-requires : (t : ℕ) → apply-lts.Need-a-of-requires (apply-claims t) (apply-at t) apply.Post
 apply-a-of-requires t c κs = node-known (c .before .before .before .before .before .pre .1 .0)
 
-pub apply-b-of-requires : (t : ℕ) → apply-lts.Need-b-of-requires (apply-claims t) (apply-at t) apply.Post
+apply-b-of-requires : (t : ℕ) → apply-lts.Need-b-of-requires (apply-claims t) (apply-at t) apply.Post
 apply-b-of-requires t c κs = node-known (c .before .before .before .before .before .before .before .pre .1 .0)
 
-pub apply-pos-of-requires-2 : (t : ℕ) → apply-lts.Need-pos-of-requires-2 (apply-claims t) (apply-at t) apply.Post
+apply-pos-of-requires-2 : (t : ℕ) → apply-lts.Need-pos-of-requires-2 (apply-claims t) (apply-at t) apply.Post
 apply-pos-of-requires-2 t c κs = tt
 
-pub apply-range-end-requires : (t : ℕ) → apply-lts.Need-range-end-requires (apply-claims t) (apply-at t) apply.Post
+apply-range-end-requires : (t : ℕ) → apply-lts.Need-range-end-requires (apply-claims t) (apply-at t) apply.Post
 apply-range-end-requires t c κs =
     let at-start = c .before .before .before .before .before .before .before .before .before in
     let at-pos-of2 = c .pos-of2 in
@@ -126,13 +153,13 @@ apply-range-end-requires t c κs =
     let fit = at-start .pre .1 .0 .fit in
     (rw (at-pos-of2 .ensures) (ready .pos-in), fit .short)
 
-pub apply-answer-requires-2 : (t : ℕ) → apply-lts.Need-answer-requires-2 (apply-claims t) (apply-at t) apply.Post
+apply-answer-requires-2 : (t : ℕ) → apply-lts.Need-answer-requires-2 (apply-claims t) (apply-at t) apply.Post
 apply-answer-requires-2 t c κs = tt
 
-pub apply-a-of-requires-2 : (t : ℕ) → apply-lts.Need-a-of-requires-2 (apply-claims t) (apply-at t) apply.Post
+apply-a-of-requires-2 : (t : ℕ) → apply-lts.Need-a-of-requires-2 (apply-claims t) (apply-at t) apply.Post
 apply-a-of-requires-2 t c κs = node-known (c .before .before .before .before .before .pre .1 .0)
 
-pub apply-use-free-requires : (t : ℕ) → apply-lts.Need-use-free-requires (apply-claims t) (apply-at t) apply.Post
+apply-use-free-requires : (t : ℕ) → apply-lts.Need-use-free-requires (apply-claims t) (apply-at t) apply.Post
 apply-use-free-requires t c κs =
     let at-start = c .before .before .before .before .before .before in
     let at-a-of2 = c .a-of2 in
@@ -147,24 +174,24 @@ apply-use-free-requires t c κs =
     let few-rules = well-formed _ (fit .accepted) .few-rules in
     (omega (arith, at-start .pre .0), (ready-at _ ready (root-in _ _ fit _ la), (at-start .pre .1 .1 .0, (omega arith, la))))
 
-pub apply-visit-pair-requires : (t : ℕ) → apply-lts.Need-visit-pair-requires (apply-claims t) (apply-at t) apply.Post
+apply-visit-pair-requires : (t : ℕ) → apply-lts.Need-visit-pair-requires (apply-claims t) (apply-at t) apply.Post
 apply-visit-pair-requires t c κs =
     let at-start = c .before .before .before .before in
     let at-kind-of = c .before .before .kind-of in
     let at-match = c .before .match in
     (omega (arith, at-start .pre .0), (at-start .pre .1 .0, (at-start .pre .1 .1 .0, inl (sym (at-kind-of .ensures .0) ∙ at-match .keys4))))
 
-pub apply-visit-pair-requires-2 : (t : ℕ) → apply-lts.Need-visit-pair-requires-2 (apply-claims t) (apply-at t) apply.Post
+apply-visit-pair-requires-2 : (t : ℕ) → apply-lts.Need-visit-pair-requires-2 (apply-claims t) (apply-at t) apply.Post
 apply-visit-pair-requires-2 t c κs =
     let at-start = c .before .before .before .before in
     let at-kind-of = c .before .before .kind-of in
     let at-match = c .before .match in
     (omega (arith, at-start .pre .0), (at-start .pre .1 .0, (at-start .pre .1 .1 .0, inr (sym (at-kind-of .ensures .0) ∙ at-match .keys5))))
 
-pub apply-a-of-requires-3 : (t : ℕ) → apply-lts.Need-a-of-requires-3 (apply-claims t) (apply-at t) apply.Post
+apply-a-of-requires-3 : (t : ℕ) → apply-lts.Need-a-of-requires-3 (apply-claims t) (apply-at t) apply.Post
 apply-a-of-requires-3 t c κs = node-known (c .before .before .before .before .before .pre .1 .0)
 
-pub apply-visit-not-requires : (t : ℕ) → apply-lts.Need-visit-not-requires (apply-claims t) (apply-at t) apply.Post
+apply-visit-not-requires : (t : ℕ) → apply-lts.Need-visit-not-requires (apply-claims t) (apply-at t) apply.Post
 apply-visit-not-requires t c κs =
     let at-start = c .before .before .before .before .before .before in
     let at-a-of3 = c .a-of3 in
@@ -176,10 +203,10 @@ apply-visit-not-requires t c κs =
     let k = not-child _ _ fit (at-start .args .node) (ready .node-in) (sym (at-kind-of .ensures .0) ∙ at-match .keys6) in
     (omega (arith, at-start .pre .0), (ready-at _ ready (omega arith), at-start .pre .1 .1 .0))
 
-pub apply-a-of-requires-4 : (t : ℕ) → apply-lts.Need-a-of-requires-4 (apply-claims t) (apply-at t) apply.Post
+apply-a-of-requires-4 : (t : ℕ) → apply-lts.Need-a-of-requires-4 (apply-claims t) (apply-at t) apply.Post
 apply-a-of-requires-4 t c κs = node-known (c .before .before .before .before .before .pre .1 .0)
 
-pub apply-visit-repetition-requires : (t : ℕ) → apply-lts.Need-visit-repetition-requires (apply-claims t) (apply-at t) apply.Post
+apply-visit-repetition-requires : (t : ℕ) → apply-lts.Need-visit-repetition-requires (apply-claims t) (apply-at t) apply.Post
 apply-visit-repetition-requires t c κs =
     let at-start = c .before .before .before .before .before .before in
     let at-a-of4 = c .a-of4 in
@@ -191,16 +218,16 @@ apply-visit-repetition-requires t c κs =
     let k = repetition-child _ _ fit (at-start .args .node) (ready .node-in) (sym (at-kind-of .ensures .0) ∙ at-match .keys7) in
     (omega (arith, at-start .pre .0), (ready-at _ ready (omega arith), (at-start .pre .1 .1 .0, ready .node-in)))
 
-pub apply-pos-of-requires-3 : (t : ℕ) → apply-lts.Need-pos-of-requires-3 (apply-claims t) (apply-at t) apply.Post
+apply-pos-of-requires-3 : (t : ℕ) → apply-lts.Need-pos-of-requires-3 (apply-claims t) (apply-at t) apply.Post
 apply-pos-of-requires-3 t c κs = tt
 
-pub apply-answer-requires-3 : (t : ℕ) → apply-lts.Need-answer-requires-3 (apply-claims t) (apply-at t) apply.Post
+apply-answer-requires-3 : (t : ℕ) → apply-lts.Need-answer-requires-3 (apply-claims t) (apply-at t) apply.Post
 apply-answer-requires-3 t c κs = tt
 
-pub apply-element-copy-out-if1 : (t : ℕ) → apply-lts.Need-element-copy-out-if1 (apply-claims t) (apply-at t) apply.Post
+apply-element-copy-out-if1 : (t : ℕ) → apply-lts.Need-element-copy-out-if1 (apply-claims t) (apply-at t) apply.Post
 apply-element-copy-out-if1 t c = search needs
 
-pub apply-returns : (t : ℕ) → apply-lts.Need-returns (apply-claims t) (apply-at t) apply.Post
+apply-returns : (t : ℕ) → apply-lts.Need-returns (apply-claims t) (apply-at t) apply.Post
 apply-returns t c =
     let at-start = c .before .before .before .before .before in
     let at-if1 = c .if1 in
@@ -209,19 +236,19 @@ apply-returns t c =
     let met = apply-met t rec-match in
     (plain-opens (lent (at-start .args .table .now .now) (at-start .args .given .now)) (at-start .args .line .now .now) (at-start .args .work .now .now) (at-start .args .spot) (at-start .args .node) (posIn (at-start .args .spot)) ready (keeps-no _ (at-if1 .taken)) _ _ (met .0), met .1)
 
-pub apply-slice-aggregate-keep : (t : ℕ) → apply-lts.Need-slice-aggregate-keep (apply-claims t) (apply-at t) apply.Post
+apply-slice-aggregate-keep : (t : ℕ) → apply-lts.Need-slice-aggregate-keep (apply-claims t) (apply-at t) apply.Post
 apply-slice-aggregate-keep t c = refl
 
-pub apply-pos-of-requires-4 : (t : ℕ) → apply-lts.Need-pos-of-requires-4 (apply-claims t) (apply-at t) apply.Post
+apply-pos-of-requires-4 : (t : ℕ) → apply-lts.Need-pos-of-requires-4 (apply-claims t) (apply-at t) apply.Post
 apply-pos-of-requires-4 t c κs = tt
 
-pub apply-end-of-requires : (t : ℕ) → apply-lts.Need-end-of-requires (apply-claims t) (apply-at t) apply.Post
+apply-end-of-requires : (t : ℕ) → apply-lts.Need-end-of-requires (apply-claims t) (apply-at t) apply.Post
 apply-end-of-requires t c κs = tt
 
-pub apply-list-of-requires : (t : ℕ) → apply-lts.Need-list-of-requires (apply-claims t) (apply-at t) apply.Post
+apply-list-of-requires : (t : ℕ) → apply-lts.Need-list-of-requires (apply-claims t) (apply-at t) apply.Post
 apply-list-of-requires t c κs = tt
 
-pub apply-keep-requires : (t : ℕ) → apply-lts.Need-keep-requires (apply-claims t) (apply-at t) apply.Post
+apply-keep-requires : (t : ℕ) → apply-lts.Need-keep-requires (apply-claims t) (apply-at t) apply.Post
 apply-keep-requires t c κs =
     let at-start = c .before .before .before .before .before .before .before .before .before .before in
     let at-end-of = c .before .end-of in
@@ -233,7 +260,7 @@ apply-keep-requires t c κs =
     let m = met .0 .came .end-most in
     (rw (at-pos-of4 .ensures) (roomy (lent (at-start .args .table .now .now) (at-start .args .given .now)) (at-start .args .line .now .now) _ (at-start .args .node) (posIn (at-start .args .spot)) (ready .fit) (met .0 .came .words .room) (ready .node-in) (ready .pos-in)), omega arith)
 
-pub apply-returns-2 : (t : ℕ) → apply-lts.Need-returns-2 (apply-claims t) (apply-at t) apply.Post
+apply-returns-2 : (t : ℕ) → apply-lts.Need-returns-2 (apply-claims t) (apply-at t) apply.Post
 apply-returns-2 t c =
     let at-start = c .before .before .before .before .before .before .before .before .before .before .before in
     let at-if1 = c .before .before .before .before .before .before .if1 in
@@ -245,4 +272,38 @@ apply-returns-2 t c =
     let ready = at-start .pre .1 .0 in
     let free = keeps-yes _ (at-if1 .left) in
     let met = apply-met t rec-match in
-    (open-applied (lent (at-start .args .table .now .now) (at-start .args .given .now)) (at-start .args .line .now .now) (at-start .args .work .now .now) (at-start .args .spot) (at-start .args .node) (posIn (at-start .args .spot)) ready (at-start .pre .1 .1 .0) free _ refl _ (at-start .pre .1 .1 .1 .1 free) _ _ (met .0) (rw (at-pos-of4 .ensures, at-end-of .ensures, at-list-of .ensures) at (at-keep .ensures)), met .1)
+    let kept = rw (at-pos-of4 .ensures, at-end-of .ensures, at-list-of .ensures) at (at-keep .ensures) in
+    (open-applied (lent (at-start .args .table .now .now) (at-start .args .given .now)) _ _ _ _ _ ready (at-start .pre .1 .1 .0) free _ refl _ (at-start .pre .1 .1 .1 .1 free) _ _ (met .0) kept, met .1)
+
+-- All of it.
+pub apply-closed : (M : Type 1) (t : ℕ) → apply-lts.Closed (apply-claims t) (apply-at t) apply.Post M
+apply-closed M t =
+    apply-lts.spec (apply-claims t)
+    (apply-at t)
+    apply.Post
+    (apply-kind-of-requires t)
+    (apply-pos-of-requires t)
+    (apply-answer-requires t)
+    (apply-a-of-requires t)
+    (apply-b-of-requires t)
+    (apply-pos-of-requires-2 t)
+    (apply-range-end-requires t)
+    (apply-answer-requires-2 t)
+    (apply-a-of-requires-2 t)
+    (apply-use-free-requires t)
+    (apply-visit-pair-requires t)
+    (apply-visit-pair-requires-2 t)
+    (apply-a-of-requires-3 t)
+    (apply-visit-not-requires t)
+    (apply-a-of-requires-4 t)
+    (apply-visit-repetition-requires t)
+    (apply-pos-of-requires-3 t)
+    (apply-answer-requires-3 t)
+    (apply-element-copy-out-if1 t)
+    (apply-returns t)
+    (apply-slice-aggregate-keep t)
+    (apply-pos-of-requires-4 t)
+    (apply-end-of-requires t)
+    (apply-list-of-requires t)
+    (apply-keep-requires t)
+    (apply-returns-2 t)

@@ -21,28 +21,28 @@ use Rattle.visits.proofs.Steps.{came-at}
 use Rattle.visits.proofs.Nodes.{use-unmatched, use-tree}
 use Rattle.visits.proofs.+apply+use_free+use_live+use_rule+visit+visit_choice+visit_not+visit_open+visit_pair+visit_repetition+visit_sequence.Proof.Ranks.{use-free-at, visit-below}
 
-abbrev pub use-free-claims : ℕ → use-free-lts.Claims
+abbrev use-free-claims : ℕ → use-free-lts.Claims
 use-free-claims t = (pos-of-reads.Asked, pos-of-reads.Learnt, root-of-reads.Asked, root-of-reads.Learnt, visit-below t, visit.Post, end-of-reads.Asked, end-of-reads.Learnt, list-of-reads.Asked, list-of-reads.Learnt, planted-reads.Asked, planted-reads.Learnt, answer-reads.Asked, answer-reads.Learnt)
 
-pub use-free-pos-of-requires : (t : ℕ) → use-free-lts.Need-pos-of-requires (use-free-claims t) (use-free-at t) use-free.Post
+use-free-pos-of-requires : (t : ℕ) → use-free-lts.Need-pos-of-requires (use-free-claims t) (use-free-at t) use-free.Post
 use-free-pos-of-requires t c κs = tt
 
-pub use-free-root-of-requires : (t : ℕ) → use-free-lts.Need-root-of-requires (use-free-claims t) (use-free-at t) use-free.Post
+use-free-root-of-requires : (t : ℕ) → use-free-lts.Need-root-of-requires (use-free-claims t) (use-free-at t) use-free.Post
 use-free-root-of-requires t c κs =
     let at-start = c .before .before in
     (at-start .pre .1 .0 .fit .accepted, at-start .pre .1 .1 .1 .1)
 
-pub use-free-visit-requires : (t : ℕ) → use-free-lts.Need-visit-requires (use-free-claims t) (use-free-at t) use-free.Post
+use-free-visit-requires : (t : ℕ) → use-free-lts.Need-visit-requires (use-free-claims t) (use-free-at t) use-free.Post
 use-free-visit-requires t c κs =
     let at-start = c .before .before .before .before in
     let at-root-of = c .before .root-of in
     let ready = at-start .pre .1 .0 in
     (omega (arith, at-start .pre .0), rw (at-root-of .ensures .0) ready)
 
-pub use-free-end-of-requires : (t : ℕ) → use-free-lts.Need-end-of-requires (use-free-claims t) (use-free-at t) use-free.Post
+use-free-end-of-requires : (t : ℕ) → use-free-lts.Need-end-of-requires (use-free-claims t) (use-free-at t) use-free.Post
 use-free-end-of-requires t c κs = tt
 
-pub use-free-returns : (t : ℕ) → use-free-lts.Need-returns (use-free-claims t) (use-free-at t) use-free.Post
+use-free-returns : (t : ℕ) → use-free-lts.Need-returns (use-free-claims t) (use-free-at t) use-free.Post
 use-free-returns t c =
     let at-start = c .before .before .before .before .before .before .before in
     let at-visit = c .before .before .visit in
@@ -57,13 +57,13 @@ use-free-returns t c =
     let stop = let q : 65534 ≤ endIn (at-visit .result) = rw (← at-end-of .ensures) (at-if1 .taken) in q in
     (record { came = use-unmatched _ _ fit visiting _ _ (rw (at-root-of .ensures .0) at one) _ stop; cells = at-visit .ensures .0 .cells }, at-visit .ensures .1)
 
-pub use-free-slice-aggregate-planted : (t : ℕ) → use-free-lts.Need-slice-aggregate-planted (use-free-claims t) (use-free-at t) use-free.Post
+use-free-slice-aggregate-planted : (t : ℕ) → use-free-lts.Need-slice-aggregate-planted (use-free-claims t) (use-free-at t) use-free.Post
 use-free-slice-aggregate-planted t c = refl
 
-pub use-free-list-of-requires : (t : ℕ) → use-free-lts.Need-list-of-requires (use-free-claims t) (use-free-at t) use-free.Post
+use-free-list-of-requires : (t : ℕ) → use-free-lts.Need-list-of-requires (use-free-claims t) (use-free-at t) use-free.Post
 use-free-list-of-requires t c κs = tt
 
-pub use-free-planted-requires : (t : ℕ) → use-free-lts.Need-planted-requires (use-free-claims t) (use-free-at t) use-free.Post
+use-free-planted-requires : (t : ℕ) → use-free-lts.Need-planted-requires (use-free-claims t) (use-free-at t) use-free.Post
 use-free-planted-requires t c κs =
     let at-start = c .before .before .before .before .before .before .before .before .before in
     let at-visit = c .before .before .before .before .visit in
@@ -87,10 +87,10 @@ use-free-planted-requires t c κs =
     let al = fit .allowance in
     ((one .words .arena, omega (arith, at-list-of .ensures)), ((omega arith, omega arith), (at-start .pre .1 .1 .1 .0, (omega (arith, at-pos-of .ensures), omega (arith, at-end-of .ensures)))))
 
-pub use-free-answer-requires : (t : ℕ) → use-free-lts.Need-answer-requires (use-free-claims t) (use-free-at t) use-free.Post
+use-free-answer-requires : (t : ℕ) → use-free-lts.Need-answer-requires (use-free-claims t) (use-free-at t) use-free.Post
 use-free-answer-requires t c κs = tt
 
-pub use-free-returns-2 : (t : ℕ) → use-free-lts.Need-returns-2 (use-free-claims t) (use-free-at t) use-free.Post
+use-free-returns-2 : (t : ℕ) → use-free-lts.Need-returns-2 (use-free-claims t) (use-free-at t) use-free.Post
 use-free-returns-2 t c =
     let at-start = c .before .before .before .before .before .before .before .before .before .before .before in
     let at-visit = c .before .before .before .before .before .before .visit in
@@ -123,3 +123,20 @@ use-free-returns-2 t c =
       },
       at-visit .ensures .1,
     )
+
+-- All of it.
+pub use-free-closed : (M : Type 1) (t : ℕ) → use-free-lts.Closed (use-free-claims t) (use-free-at t) use-free.Post M
+use-free-closed M t =
+    use-free-lts.spec (use-free-claims t)
+    (use-free-at t)
+    use-free.Post
+    (use-free-pos-of-requires t)
+    (use-free-root-of-requires t)
+    (use-free-visit-requires t)
+    (use-free-end-of-requires t)
+    (use-free-returns t)
+    (use-free-slice-aggregate-planted t)
+    (use-free-list-of-requires t)
+    (use-free-planted-requires t)
+    (use-free-answer-requires t)
+    (use-free-returns-2 t)

@@ -25,13 +25,13 @@ use Rattle.visits.proofs.Depth.{pos-more, starts-live, ends-live}
 use Rattle.visits.proofs.Attempts.{GrowingIn, Use, Tried, Attempt, Planted, Begun, Turned, room-tree, first-attempt, first-ends, first-low, loop-begins, starts-next, next-attempt, next-stops, held-ends, next-low, loop-turns, loop-nearer}
 use Rattle.visits.proofs.+apply+use_free+use_live+use_rule+visit+visit_choice+visit_not+visit_open+visit_pair+visit_repetition+visit_sequence.Proof.Ranks.{use-live-at, visit-below}
 
-abbrev pub use-live-claims : ℕ → use-live-lts.Claims
+abbrev use-live-claims : ℕ → use-live-lts.Claims
 use-live-claims t = (root-of-reads.Asked, root-of-reads.Learnt, pos-of-reads.Asked, pos-of-reads.Learnt, live-of-reads.Asked, live-of-reads.Learnt, put-use-reads.Asked, put-use-reads.Learnt, visit-below t, visit.Post, end-of-reads.Asked, end-of-reads.Learnt, list-of-reads.Asked, list-of-reads.Learnt, planted-reads.Asked, planted-reads.Learnt, answer-reads.Asked, answer-reads.Learnt)
 
-abbrev pub use-live-Inv-loop : use-live-lts.InvT-loop
+abbrev use-live-Inv-loop : use-live-lts.InvT-loop
 use-live-Inv-loop given table line work₀ spot rule root pos key live first reached end₀ held₀ work end held = GrowingIn (lent (table .now) given) (line .now) spot root rule (posIn spot) (work₀ .now) end₀ (work .now) end × ((held ≡ topIn (work .now)) × (work .name ≡ work₀ .name))
 
-abbrev pub use-live-μ-loop : use-live-lts.MeasureT-loop
+abbrev use-live-μ-loop : use-live-lts.MeasureT-loop
 use-live-μ-loop given table line work₀ spot rule root pos key live first reached end₀ held₀ work end held = getD given 0 0 - madeIn (work .now)
 
 -- The use, which is known once its root is; and the same as seen from later places.
@@ -135,62 +135,62 @@ use-live-grown t c = record {
   top = c .planted2 .ensures .1 .1;
 }
 
-pub use-live-root-of-requires : (t : ℕ) → use-live-lts.Need-root-of-requires (use-live-claims t) (use-live-at t) use-live.Post use-live-Inv-loop use-live-μ-loop
+use-live-root-of-requires : (t : ℕ) → use-live-lts.Need-root-of-requires (use-live-claims t) (use-live-at t) use-live.Post use-live-Inv-loop use-live-μ-loop
 use-live-root-of-requires t c κs =
     let pre = c .before .pre .1 in
     (pre .0 .fit .accepted, pre .1 .0 .1 .1)
 
-pub use-live-pos-of-requires : (t : ℕ) → use-live-lts.Need-pos-of-requires (use-live-claims t) (use-live-at t) use-live.Post use-live-Inv-loop use-live-μ-loop
+use-live-pos-of-requires : (t : ℕ) → use-live-lts.Need-pos-of-requires (use-live-claims t) (use-live-at t) use-live.Post use-live-Inv-loop use-live-μ-loop
 use-live-pos-of-requires t c κs = tt
 
-pub use-live-mul-key : (t : ℕ) → use-live-lts.Need-mul-key (use-live-claims t) (use-live-at t) use-live.Post use-live-Inv-loop use-live-μ-loop
+use-live-mul-key : (t : ℕ) → use-live-lts.Need-mul-key (use-live-claims t) (use-live-at t) use-live.Post use-live-Inv-loop use-live-μ-loop
 use-live-mul-key t c =
     let ready = use-live-tried t (c .before) .ready in
     omega (arith, ready .pos-in, ready .fit .short, c .pos-of .ensures)
 
-pub use-live-add-key : (t : ℕ) → use-live-lts.Need-add-key (use-live-claims t) (use-live-at t) use-live.Post use-live-Inv-loop use-live-μ-loop
+use-live-add-key : (t : ℕ) → use-live-lts.Need-add-key (use-live-claims t) (use-live-at t) use-live.Post use-live-Inv-loop use-live-μ-loop
 use-live-add-key t c =
     let tried = use-live-tried t (c .before) in
     omega (arith, tried .ready .pos-in, tried .ready .fit .short, tried .small, c .pos-of .ensures)
 
-pub use-live-live-of-requires : (t : ℕ) → use-live-lts.Need-live-of-requires (use-live-claims t) (use-live-at t) use-live.Post use-live-Inv-loop use-live-μ-loop
+use-live-live-of-requires : (t : ℕ) → use-live-lts.Need-live-of-requires (use-live-claims t) (use-live-at t) use-live.Post use-live-Inv-loop use-live-μ-loop
 use-live-live-of-requires t c κs = tt
 
-pub use-live-slice-aggregate-put-use : (t : ℕ) → use-live-lts.Need-slice-aggregate-put-use (use-live-claims t) (use-live-at t) use-live.Post use-live-Inv-loop use-live-μ-loop
+use-live-slice-aggregate-put-use : (t : ℕ) → use-live-lts.Need-slice-aggregate-put-use (use-live-claims t) (use-live-at t) use-live.Post use-live-Inv-loop use-live-μ-loop
 use-live-slice-aggregate-put-use t c = refl
 
-pub use-live-put-use-requires : (t : ℕ) → use-live-lts.Need-put-use-requires (use-live-claims t) (use-live-at t) use-live.Post use-live-Inv-loop use-live-μ-loop
+use-live-put-use-requires : (t : ℕ) → use-live-lts.Need-put-use-requires (use-live-claims t) (use-live-at t) use-live.Post use-live-Inv-loop use-live-μ-loop
 use-live-put-use-requires t c κs =
     let tried = use-live-tried t (c .before .before .before) in
     let e = c .before .live-of .ensures in
     (omega (arith, tried .ready .words .room, tried .room, e), omega (arith, tried .room, e))
 
-pub use-live-add-visit : (t : ℕ) → use-live-lts.Need-add-visit (use-live-claims t) (use-live-at t) use-live.Post use-live-Inv-loop use-live-μ-loop
+use-live-add-visit : (t : ℕ) → use-live-lts.Need-add-visit (use-live-claims t) (use-live-at t) use-live.Post use-live-Inv-loop use-live-μ-loop
 use-live-add-visit t c =
     let ready = use-live-tried t (c .before .before .before .before .before) .ready in
     omega (arith, ready .pos-in, ready .fit .short)
 
-pub use-live-visit-requires : (t : ℕ) → use-live-lts.Need-visit-requires (use-live-claims t) (use-live-at t) use-live.Post use-live-Inv-loop use-live-μ-loop
+use-live-visit-requires : (t : ℕ) → use-live-lts.Need-visit-requires (use-live-claims t) (use-live-at t) use-live.Post use-live-Inv-loop use-live-μ-loop
 use-live-visit-requires t c κs =
     let tried = use-live-tried t (c .before .before .before .before .before) in
     let at-start = c .before .before .before .before .before .before .before in
     (omega (arith, at-start .pre .0), rw (pos-more (at-start .args .spot) (omega (arith, tried .room))) (starts-live _ _ _ _ _ _ _ 0 0 (tried .ready) (tried .room) (omega arith) (omega arith) (use-live-put t (c .before))))
 
-pub use-live-end-of-requires : (t : ℕ) → use-live-lts.Need-end-of-requires (use-live-claims t) (use-live-at t) use-live.Post use-live-Inv-loop use-live-μ-loop
+use-live-end-of-requires : (t : ℕ) → use-live-lts.Need-end-of-requires (use-live-claims t) (use-live-at t) use-live.Post use-live-Inv-loop use-live-μ-loop
 use-live-end-of-requires t c κs = tt
 
-pub use-live-returns : (t : ℕ) → use-live-lts.Need-returns (use-live-claims t) (use-live-at t) use-live.Post use-live-Inv-loop use-live-μ-loop
+use-live-returns : (t : ℕ) → use-live-lts.Need-returns (use-live-claims t) (use-live-at t) use-live.Post use-live-Inv-loop use-live-μ-loop
 use-live-returns t c =
     let at-visit = c .before .before in
     (first-ends _ (use-live-tried t (at-visit .before .before .before .before .before .before)) (use-live-first t at-visit) (omega (arith, c .before .end-of .ensures, c .if1 .taken)), at-visit .visit .ensures .1)
 
-pub use-live-slice-aggregate-planted : (t : ℕ) → use-live-lts.Need-slice-aggregate-planted (use-live-claims t) (use-live-at t) use-live.Post use-live-Inv-loop use-live-μ-loop
+use-live-slice-aggregate-planted : (t : ℕ) → use-live-lts.Need-slice-aggregate-planted (use-live-claims t) (use-live-at t) use-live.Post use-live-Inv-loop use-live-μ-loop
 use-live-slice-aggregate-planted t c = refl
 
-pub use-live-list-of-requires : (t : ℕ) → use-live-lts.Need-list-of-requires (use-live-claims t) (use-live-at t) use-live.Post use-live-Inv-loop use-live-μ-loop
+use-live-list-of-requires : (t : ℕ) → use-live-lts.Need-list-of-requires (use-live-claims t) (use-live-at t) use-live.Post use-live-Inv-loop use-live-μ-loop
 use-live-list-of-requires t c κs = tt
 
-pub use-live-planted-requires : (t : ℕ) → use-live-lts.Need-planted-requires (use-live-claims t) (use-live-at t) use-live.Post use-live-Inv-loop use-live-μ-loop
+use-live-planted-requires : (t : ℕ) → use-live-lts.Need-planted-requires (use-live-claims t) (use-live-at t) use-live.Post use-live-Inv-loop use-live-μ-loop
 use-live-planted-requires t c κs =
     let at-visit = c .before .before .before .before in
     let tried = use-live-tried t (at-visit .before .before .before .before .before .before) in
@@ -204,45 +204,45 @@ use-live-planted-requires t c κs =
       ),
     )
 
-pub use-live-loop-holds : (t : ℕ) → use-live-lts.Need-loop-holds (use-live-claims t) (use-live-at t) use-live.Post use-live-Inv-loop use-live-μ-loop
+use-live-loop-holds : (t : ℕ) → use-live-lts.Need-loop-holds (use-live-claims t) (use-live-at t) use-live.Post use-live-Inv-loop use-live-μ-loop
 use-live-loop-holds t c = (rw (c .before .before .before .before .end-of .ensures) (loop-begins _ (use-live-begun t c)), (sym (c .planted .ensures .1 .1), refl))
 
-pub use-live-slice-aggregate-put-use-2 : (t : ℕ) → use-live-lts.Need-slice-aggregate-put-use-2 (use-live-claims t) (use-live-at t) use-live.Post use-live-Inv-loop use-live-μ-loop
+use-live-slice-aggregate-put-use-2 : (t : ℕ) → use-live-lts.Need-slice-aggregate-put-use-2 (use-live-claims t) (use-live-at t) use-live.Post use-live-Inv-loop use-live-μ-loop
 use-live-slice-aggregate-put-use-2 t c = refl
 
-pub use-live-put-use-requires-2 : (t : ℕ) → use-live-lts.Need-put-use-requires-2 (use-live-claims t) (use-live-at t) use-live.Post use-live-Inv-loop use-live-μ-loop
+use-live-put-use-requires-2 : (t : ℕ) → use-live-lts.Need-put-use-requires-2 (use-live-claims t) (use-live-at t) use-live.Post use-live-Inv-loop use-live-μ-loop
 use-live-put-use-requires-2 t c κs =
     let room = use-live-begun t (c .before .before) .tried .room in
     let e = c .before .before .before .before .before .before .before .before .before .before .before .live-of .ensures in
     (omega (arith, c .before .loop .inv .0 .words .room, room, e), omega (arith, room, e))
 
-pub use-live-add-visit-2 : (t : ℕ) → use-live-lts.Need-add-visit-2 (use-live-claims t) (use-live-at t) use-live.Post use-live-Inv-loop use-live-μ-loop
+use-live-add-visit-2 : (t : ℕ) → use-live-lts.Need-add-visit-2 (use-live-claims t) (use-live-at t) use-live.Post use-live-Inv-loop use-live-μ-loop
 use-live-add-visit-2 t c =
     let ready = use-live-begun t (c .before .before .before .before) .tried .ready in
     omega (arith, ready .pos-in, ready .fit .short)
 
-pub use-live-visit-requires-2 : (t : ℕ) → use-live-lts.Need-visit-requires-2 (use-live-claims t) (use-live-at t) use-live.Post use-live-Inv-loop use-live-μ-loop
+use-live-visit-requires-2 : (t : ℕ) → use-live-lts.Need-visit-requires-2 (use-live-claims t) (use-live-at t) use-live.Post use-live-Inv-loop use-live-μ-loop
 use-live-visit-requires-2 t c κs =
     let at-start = c .before .before .before .before .before .before .before .before .before .before .before .before .before .before .before .before .before in
     let begun = use-live-begun t (c .before .before .before .before) in
     (omega (arith, at-start .pre .0), rw (pos-more (at-start .args .spot) (omega (arith, begun .tried .room))) (starts-next _ begun (use-live-growing t (c .before .before .before)) (use-live-held t (c .before))))
 
-pub use-live-end-of-requires-2 : (t : ℕ) → use-live-lts.Need-end-of-requires-2 (use-live-claims t) (use-live-at t) use-live.Post use-live-Inv-loop use-live-μ-loop
+use-live-end-of-requires-2 : (t : ℕ) → use-live-lts.Need-end-of-requires-2 (use-live-claims t) (use-live-at t) use-live.Post use-live-Inv-loop use-live-μ-loop
 use-live-end-of-requires-2 t c κs = tt
 
-pub use-live-answer-requires : (t : ℕ) → use-live-lts.Need-answer-requires (use-live-claims t) (use-live-at t) use-live.Post use-live-Inv-loop use-live-μ-loop
+use-live-answer-requires : (t : ℕ) → use-live-lts.Need-answer-requires (use-live-claims t) (use-live-at t) use-live.Post use-live-Inv-loop use-live-μ-loop
 use-live-answer-requires t c κs = tt
 
-pub use-live-answer-requires-2 : (t : ℕ) → use-live-lts.Need-answer-requires-2 (use-live-claims t) (use-live-at t) use-live.Post use-live-Inv-loop use-live-μ-loop
+use-live-answer-requires-2 : (t : ℕ) → use-live-lts.Need-answer-requires-2 (use-live-claims t) (use-live-at t) use-live.Post use-live-Inv-loop use-live-μ-loop
 use-live-answer-requires-2 t c κs = tt
 
-pub use-live-slice-aggregate-planted-2 : (t : ℕ) → use-live-lts.Need-slice-aggregate-planted-2 (use-live-claims t) (use-live-at t) use-live.Post use-live-Inv-loop use-live-μ-loop
+use-live-slice-aggregate-planted-2 : (t : ℕ) → use-live-lts.Need-slice-aggregate-planted-2 (use-live-claims t) (use-live-at t) use-live.Post use-live-Inv-loop use-live-μ-loop
 use-live-slice-aggregate-planted-2 t c = refl
 
-pub use-live-list-of-requires-2 : (t : ℕ) → use-live-lts.Need-list-of-requires-2 (use-live-claims t) (use-live-at t) use-live.Post use-live-Inv-loop use-live-μ-loop
+use-live-list-of-requires-2 : (t : ℕ) → use-live-lts.Need-list-of-requires-2 (use-live-claims t) (use-live-at t) use-live.Post use-live-Inv-loop use-live-μ-loop
 use-live-list-of-requires-2 t c κs = tt
 
-pub use-live-planted-requires-2 : (t : ℕ) → use-live-lts.Need-planted-requires-2 (use-live-claims t) (use-live-at t) use-live.Post use-live-Inv-loop use-live-μ-loop
+use-live-planted-requires-2 : (t : ℕ) → use-live-lts.Need-planted-requires-2 (use-live-claims t) (use-live-at t) use-live.Post use-live-Inv-loop use-live-μ-loop
 use-live-planted-requires-2 t c κs =
     let turned = use-live-turned t (c .before .before .before .before .before .before) in
     let tried = turned .begun .tried in
@@ -256,10 +256,10 @@ use-live-planted-requires-2 t c κs =
       ),
     )
 
-pub use-live-loop-less : (t : ℕ) → use-live-lts.Need-loop-less (use-live-claims t) (use-live-at t) use-live.Post use-live-Inv-loop use-live-μ-loop
+use-live-loop-less : (t : ℕ) → use-live-lts.Need-loop-less (use-live-claims t) (use-live-at t) use-live.Post use-live-Inv-loop use-live-μ-loop
 use-live-loop-less t c = loop-nearer _ (use-live-turned t (c .before .before .before .before .before .before .before)) (use-live-longer t (c .before .before .before) .1) (use-live-grown t c)
 
-pub use-live-loop-again : (t : ℕ) → use-live-lts.Need-loop-again (use-live-claims t) (use-live-at t) use-live.Post use-live-Inv-loop use-live-μ-loop
+use-live-loop-again : (t : ℕ) → use-live-lts.Need-loop-again (use-live-claims t) (use-live-at t) use-live.Post use-live-Inv-loop use-live-μ-loop
 use-live-loop-again t c =
     let at-visit2 = c .before .before .before .before .before .before .before in
     let longer = use-live-longer t (c .before .before .before) in (
@@ -267,19 +267,58 @@ use-live-loop-again t c =
       (sym (c .planted2 .ensures .1 .1), at-visit2 .visit2 .ensures .1 ∙ at-visit2 .before .before .before .before .loop .inv .1 .1),
     )
 
-pub use-live-returns-2 : (t : ℕ) → use-live-lts.Need-returns-2 (use-live-claims t) (use-live-at t) use-live.Post use-live-Inv-loop use-live-μ-loop
+use-live-returns-2 : (t : ℕ) → use-live-lts.Need-returns-2 (use-live-claims t) (use-live-at t) use-live.Post use-live-Inv-loop use-live-μ-loop
 use-live-returns-2 t c =
     let at-visit2 = c .before .before in
     (next-stops _ (use-live-turned t at-visit2) (sym (c .before .end-of2 .ensures) ∙ c .if2 .taken), use-live-lent t at-visit2)
 
-pub use-live-returns-3 : (t : ℕ) → use-live-lts.Need-returns-3 (use-live-claims t) (use-live-at t) use-live.Post use-live-Inv-loop use-live-μ-loop
+use-live-returns-3 : (t : ℕ) → use-live-lts.Need-returns-3 (use-live-claims t) (use-live-at t) use-live.Post use-live-Inv-loop use-live-μ-loop
 use-live-returns-3 t c =
     let at-visit2 = c .before .before .before .before in
     let held = c .answer .ensures .1 ∙ at-visit2 .before .before .before .before .loop .inv .1 .0 in
     (held-ends _ (use-live-turned t at-visit2) _ (c .answer .ensures .0) held (inl (sym (c .before .before .before .end-of2 .ensures) ∙ c .before .if3 .taken)), use-live-lent t at-visit2)
 
-pub use-live-returns-4 : (t : ℕ) → use-live-lts.Need-returns-4 (use-live-claims t) (use-live-at t) use-live.Post use-live-Inv-loop use-live-μ-loop
+use-live-returns-4 : (t : ℕ) → use-live-lts.Need-returns-4 (use-live-claims t) (use-live-at t) use-live.Post use-live-Inv-loop use-live-μ-loop
 use-live-returns-4 t c =
     let at-visit2 = c .before .before .before .before .before in
     let held = c .answer2 .ensures .1 ∙ at-visit2 .before .before .before .before .loop .inv .1 .0 in
     (held-ends _ (use-live-turned t at-visit2) _ (c .answer2 .ensures .0) held (inr (omega (arith, c .before .before .before .before .end-of2 .ensures, c .before .if4 .taken))), use-live-lent t at-visit2)
+
+-- All of it.
+pub use-live-closed : (M : Type 1) (t : ℕ) → use-live-lts.Closed (use-live-claims t) (use-live-at t) use-live.Post M
+use-live-closed M t =
+    use-live-lts.spec (use-live-claims t)
+    (use-live-at t)
+    use-live.Post
+    use-live-Inv-loop
+    use-live-μ-loop
+    (use-live-root-of-requires t)
+    (use-live-pos-of-requires t)
+    (use-live-mul-key t)
+    (use-live-add-key t)
+    (use-live-live-of-requires t)
+    (use-live-slice-aggregate-put-use t)
+    (use-live-put-use-requires t)
+    (use-live-add-visit t)
+    (use-live-visit-requires t)
+    (use-live-end-of-requires t)
+    (use-live-returns t)
+    (use-live-slice-aggregate-planted t)
+    (use-live-list-of-requires t)
+    (use-live-planted-requires t)
+    (use-live-loop-holds t)
+    (use-live-slice-aggregate-put-use-2 t)
+    (use-live-put-use-requires-2 t)
+    (use-live-add-visit-2 t)
+    (use-live-visit-requires-2 t)
+    (use-live-end-of-requires-2 t)
+    (use-live-answer-requires t)
+    (use-live-answer-requires-2 t)
+    (use-live-slice-aggregate-planted-2 t)
+    (use-live-list-of-requires-2 t)
+    (use-live-planted-requires-2 t)
+    (use-live-loop-less t)
+    (use-live-loop-again t)
+    (use-live-returns-2 t)
+    (use-live-returns-3 t)
+    (use-live-returns-4 t)

@@ -13,19 +13,19 @@ use Rattle.visits.proofs.Nodes.{choice-first, choice-second}
 use Rattle.visits.proofs.Ready.{ready-next}
 use Rattle.visits.proofs.+apply+use_free+use_live+use_rule+visit+visit_choice+visit_not+visit_open+visit_pair+visit_repetition+visit_sequence.Proof.Ranks.{visit-below, visit-choice-at}
 
-abbrev pub visit-choice-claims : ℕ → visit-choice-lts.Claims
+abbrev visit-choice-claims : ℕ → visit-choice-lts.Claims
 visit-choice-claims t = (visit-below t, visit.Post, end-of-reads.Asked, end-of-reads.Learnt)
 
-pub visit-choice-visit-requires : (t : ℕ) → visit-choice-lts.Need-visit-requires (visit-choice-claims t) (visit-choice-at t) visit-choice.Post
+visit-choice-visit-requires : (t : ℕ) → visit-choice-lts.Need-visit-requires (visit-choice-claims t) (visit-choice-at t) visit-choice.Post
 visit-choice-visit-requires t c κs =
     let at-start = c .before in
     let ready = at-start .pre .1 .0 in
     (omega (arith, at-start .pre .0), ready)
 
-pub visit-choice-end-of-requires : (t : ℕ) → visit-choice-lts.Need-end-of-requires (visit-choice-claims t) (visit-choice-at t) visit-choice.Post
+visit-choice-end-of-requires : (t : ℕ) → visit-choice-lts.Need-end-of-requires (visit-choice-claims t) (visit-choice-at t) visit-choice.Post
 visit-choice-end-of-requires t c κs = tt
 
-pub visit-choice-returns : (t : ℕ) → visit-choice-lts.Need-returns (visit-choice-claims t) (visit-choice-at t) visit-choice.Post
+visit-choice-returns : (t : ℕ) → visit-choice-lts.Need-returns (visit-choice-claims t) (visit-choice-at t) visit-choice.Post
 visit-choice-returns t c =
     let at-start = c .before .before .before .before in
     let at-visit = c .before .before .visit in
@@ -36,7 +36,7 @@ visit-choice-returns t c =
     let first = at-visit .ensures .0 in
     (record { came = choice-first _ _ (ready .fit) visiting _ _ (first .came) _ (λ e. at-if1 .taken (at-end-of .ensures ∙ e)); cells = first .cells }, at-visit .ensures .1)
 
-pub visit-choice-visit-requires-2 : (t : ℕ) → visit-choice-lts.Need-visit-requires-2 (visit-choice-claims t) (visit-choice-at t) visit-choice.Post
+visit-choice-visit-requires-2 : (t : ℕ) → visit-choice-lts.Need-visit-requires-2 (visit-choice-claims t) (visit-choice-at t) visit-choice.Post
 visit-choice-visit-requires-2 t c κs =
     let at-start = c .before .before .before .before .before in
     let at-visit = c .before .before .before .visit in
@@ -45,7 +45,7 @@ visit-choice-visit-requires-2 t c κs =
     let first = at-visit .ensures .0 in
     (omega (arith, at-start .pre .0), ready-next _ _ ready (first .came) (first .cells) (room .1) (ready .pos-in))
 
-pub visit-choice-returns-2 : (t : ℕ) → visit-choice-lts.Need-returns-2 (visit-choice-claims t) (visit-choice-at t) visit-choice.Post
+visit-choice-returns-2 : (t : ℕ) → visit-choice-lts.Need-returns-2 (visit-choice-claims t) (visit-choice-at t) visit-choice.Post
 visit-choice-returns-2 t c =
     let at-start = c .before .before .before .before .before .before in
     let at-visit = c .before .before .before .before .visit in
@@ -57,3 +57,15 @@ visit-choice-returns-2 t c =
     let first = at-visit .ensures .0 in
     let next = at-visit2 .ensures .0 in
     (record { came = choice-second _ _ (ready .fit) visiting _ _ (first .came) _ (sym (at-end-of .ensures) ∙ at-if1 .left) (next .came); cells = omega (arith, first .cells, next .cells) }, at-visit2 .ensures .1 ∙ at-visit .ensures .1)
+
+-- All of it.
+pub visit-choice-closed : (M : Type 1) (t : ℕ) → visit-choice-lts.Closed (visit-choice-claims t) (visit-choice-at t) visit-choice.Post M
+visit-choice-closed M t =
+    visit-choice-lts.spec (visit-choice-claims t)
+    (visit-choice-at t)
+    visit-choice.Post
+    (visit-choice-visit-requires t)
+    (visit-choice-end-of-requires t)
+    (visit-choice-returns t)
+    (visit-choice-visit-requires-2 t)
+    (visit-choice-returns-2 t)

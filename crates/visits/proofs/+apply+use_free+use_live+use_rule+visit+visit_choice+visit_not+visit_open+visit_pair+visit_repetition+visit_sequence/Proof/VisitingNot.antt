@@ -15,19 +15,19 @@ use Rattle.visits.proofs.Steps.{came-at}
 use Rattle.visits.proofs.Nodes.{not-stop, not-match, not-fail}
 use Rattle.visits.proofs.+apply+use_free+use_live+use_rule+visit+visit_choice+visit_not+visit_open+visit_pair+visit_repetition+visit_sequence.Proof.Ranks.{visit-below, visit-not-at}
 
-abbrev pub visit-not-claims : ℕ → visit-not-lts.Claims
+abbrev visit-not-claims : ℕ → visit-not-lts.Claims
 visit-not-claims t = (visit-below t, visit.Post, end-of-reads.Asked, end-of-reads.Learnt, pos-of-reads.Asked, pos-of-reads.Learnt, answer-reads.Asked, answer-reads.Learnt)
 
-pub visit-not-visit-requires : (t : ℕ) → visit-not-lts.Need-visit-requires (visit-not-claims t) (visit-not-at t) visit-not.Post
+visit-not-visit-requires : (t : ℕ) → visit-not-lts.Need-visit-requires (visit-not-claims t) (visit-not-at t) visit-not.Post
 visit-not-visit-requires t c κs =
     let at-start = c .before in
     let ready = at-start .pre .1 .0 in
     (omega (arith, at-start .pre .0), ready)
 
-pub visit-not-end-of-requires : (t : ℕ) → visit-not-lts.Need-end-of-requires (visit-not-claims t) (visit-not-at t) visit-not.Post
+visit-not-end-of-requires : (t : ℕ) → visit-not-lts.Need-end-of-requires (visit-not-claims t) (visit-not-at t) visit-not.Post
 visit-not-end-of-requires t c κs = tt
 
-pub visit-not-returns : (t : ℕ) → visit-not-lts.Need-returns (visit-not-claims t) (visit-not-at t) visit-not.Post
+visit-not-returns : (t : ℕ) → visit-not-lts.Need-returns (visit-not-claims t) (visit-not-at t) visit-not.Post
 visit-not-returns t c =
     let at-start = c .before .before .before .before in
     let at-visit = c .before .before .visit in
@@ -38,13 +38,13 @@ visit-not-returns t c =
     let first = at-visit .ensures .0 in
     (record { came = not-stop _ _ (ready .fit) visiting _ _ (first .came) (sym (at-end-of .ensures) ∙ at-if1 .taken); cells = first .cells }, at-visit .ensures .1)
 
-pub visit-not-pos-of-requires : (t : ℕ) → visit-not-lts.Need-pos-of-requires (visit-not-claims t) (visit-not-at t) visit-not.Post
+visit-not-pos-of-requires : (t : ℕ) → visit-not-lts.Need-pos-of-requires (visit-not-claims t) (visit-not-at t) visit-not.Post
 visit-not-pos-of-requires t c κs = tt
 
-pub visit-not-answer-requires : (t : ℕ) → visit-not-lts.Need-answer-requires (visit-not-claims t) (visit-not-at t) visit-not.Post
+visit-not-answer-requires : (t : ℕ) → visit-not-lts.Need-answer-requires (visit-not-claims t) (visit-not-at t) visit-not.Post
 visit-not-answer-requires t c κs = tt
 
-pub visit-not-returns-2 : (t : ℕ) → visit-not-lts.Need-returns-2 (visit-not-claims t) (visit-not-at t) visit-not.Post
+visit-not-returns-2 : (t : ℕ) → visit-not-lts.Need-returns-2 (visit-not-claims t) (visit-not-at t) visit-not.Post
 visit-not-returns-2 t c =
     let at-start = c .before .before .before .before .before .before .before in
     let at-visit = c .before .before .before .before .before .visit in
@@ -63,10 +63,10 @@ visit-not-returns-2 t c =
       at-visit .ensures .1,
     )
 
-pub visit-not-answer-requires-2 : (t : ℕ) → visit-not-lts.Need-answer-requires-2 (visit-not-claims t) (visit-not-at t) visit-not.Post
+visit-not-answer-requires-2 : (t : ℕ) → visit-not-lts.Need-answer-requires-2 (visit-not-claims t) (visit-not-at t) visit-not.Post
 visit-not-answer-requires-2 t c κs = tt
 
-pub visit-not-returns-3 : (t : ℕ) → visit-not-lts.Need-returns-3 (visit-not-claims t) (visit-not-at t) visit-not.Post
+visit-not-returns-3 : (t : ℕ) → visit-not-lts.Need-returns-3 (visit-not-claims t) (visit-not-at t) visit-not.Post
 visit-not-returns-3 t c =
     let at-start = c .before .before .before .before .before .before in
     let at-visit = c .before .before .before .before .visit in
@@ -84,3 +84,18 @@ visit-not-returns-3 t c =
       },
       at-visit .ensures .1,
     )
+
+-- All of it.
+pub visit-not-closed : (M : Type 1) (t : ℕ) → visit-not-lts.Closed (visit-not-claims t) (visit-not-at t) visit-not.Post M
+visit-not-closed M t =
+    visit-not-lts.spec (visit-not-claims t)
+    (visit-not-at t)
+    visit-not.Post
+    (visit-not-visit-requires t)
+    (visit-not-end-of-requires t)
+    (visit-not-returns t)
+    (visit-not-pos-of-requires t)
+    (visit-not-answer-requires t)
+    (visit-not-returns-2 t)
+    (visit-not-answer-requires-2 t)
+    (visit-not-returns-3 t)

@@ -22,35 +22,35 @@ use Rattle.visits.proofs.ByKind.{apply-rule, apply-range, rule-used, no
 use Rattle.visits.proofs.Opening.{plain-opens}
 use Rattle.visits.proofs.+apply+use_free+use_live+use_rule+visit+visit_choice+visit_not+visit_open+visit_pair+visit_repetition+visit_sequence.Proof.Ranks.{apply-below, use-rule-below, visit-open-at, visit-pair-below}
 
-abbrev pub visit-open-claims : ℕ → visit-open-lts.Claims
+abbrev visit-open-claims : ℕ → visit-open-lts.Claims
 visit-open-claims t = (kind-of-reads.Asked, kind-of-reads.Learnt, a-of-reads.Asked, a-of-reads.Learnt, b-of-reads.Asked, b-of-reads.Learnt, pos-of-reads.Asked, pos-of-reads.Learnt, range-end-reads.Asked, range-end-reads.Learnt, answer-reads.Asked, answer-reads.Learnt, use-rule-below t, use-rule.Post, visit-pair-below t, visit-pair.Post, apply-below t, apply.Post)
 
-pub visit-open-kind-of-requires : (t : ℕ) → visit-open-lts.Need-kind-of-requires (visit-open-claims t) (visit-open-at t) visit-open.Post
+visit-open-kind-of-requires : (t : ℕ) → visit-open-lts.Need-kind-of-requires (visit-open-claims t) (visit-open-at t) visit-open.Post
 visit-open-kind-of-requires t c κs = node-known (c .before .pre .1 .0)
 
-pub visit-open-a-of-requires : (t : ℕ) → visit-open-lts.Need-a-of-requires (visit-open-claims t) (visit-open-at t) visit-open.Post
+visit-open-a-of-requires : (t : ℕ) → visit-open-lts.Need-a-of-requires (visit-open-claims t) (visit-open-at t) visit-open.Post
 visit-open-a-of-requires t c κs = node-known (c .before .before .before .before .before .pre .1 .0)
 
-pub visit-open-b-of-requires : (t : ℕ) → visit-open-lts.Need-b-of-requires (visit-open-claims t) (visit-open-at t) visit-open.Post
+visit-open-b-of-requires : (t : ℕ) → visit-open-lts.Need-b-of-requires (visit-open-claims t) (visit-open-at t) visit-open.Post
 visit-open-b-of-requires t c κs = node-known (c .before .before .before .before .before .before .before .pre .1 .0)
 
-pub visit-open-pos-of-requires : (t : ℕ) → visit-open-lts.Need-pos-of-requires (visit-open-claims t) (visit-open-at t) visit-open.Post
+visit-open-pos-of-requires : (t : ℕ) → visit-open-lts.Need-pos-of-requires (visit-open-claims t) (visit-open-at t) visit-open.Post
 visit-open-pos-of-requires t c κs = tt
 
-pub visit-open-range-end-requires : (t : ℕ) → visit-open-lts.Need-range-end-requires (visit-open-claims t) (visit-open-at t) visit-open.Post
+visit-open-range-end-requires : (t : ℕ) → visit-open-lts.Need-range-end-requires (visit-open-claims t) (visit-open-at t) visit-open.Post
 visit-open-range-end-requires t c κs =
     let at-start = c .before .before .before .before .before .before .before .before .before in
     let at-pos-of = c .pos-of in
     let ready = at-start .pre .1 .0 in
     (rw (at-pos-of .ensures) (ready .pos-in), ready .fit .short)
 
-pub visit-open-answer-requires : (t : ℕ) → visit-open-lts.Need-answer-requires (visit-open-claims t) (visit-open-at t) visit-open.Post
+visit-open-answer-requires : (t : ℕ) → visit-open-lts.Need-answer-requires (visit-open-claims t) (visit-open-at t) visit-open.Post
 visit-open-answer-requires t c κs = tt
 
-pub visit-open-a-of-requires-2 : (t : ℕ) → visit-open-lts.Need-a-of-requires-2 (visit-open-claims t) (visit-open-at t) visit-open.Post
+visit-open-a-of-requires-2 : (t : ℕ) → visit-open-lts.Need-a-of-requires-2 (visit-open-claims t) (visit-open-at t) visit-open.Post
 visit-open-a-of-requires-2 t c κs = node-known (c .before .before .before .before .before .pre .1 .0)
 
-pub visit-open-use-rule-requires : (t : ℕ) → visit-open-lts.Need-use-rule-requires (visit-open-claims t) (visit-open-at t) visit-open.Post
+visit-open-use-rule-requires : (t : ℕ) → visit-open-lts.Need-use-rule-requires (visit-open-claims t) (visit-open-at t) visit-open.Post
 visit-open-use-rule-requires t c κs =
     let at-start = c .before .before .before .before .before .before in
     let at-a-of2 = c .a-of2 in
@@ -63,28 +63,28 @@ visit-open-use-rule-requires t c κs =
     let la : at-a-of2 .result < rulesIn (lent (at-start .args .table .now .now) (at-start .args .given .now)) = omega arith in
     (omega (arith, at-start .pre .0), (ready-at _ ready (root-in _ _ fit _ la), ((at-start .pre .1 .1 .0, la), at-start .pre .1 .1 .1)))
 
-pub visit-open-visit-pair-requires : (t : ℕ) → visit-open-lts.Need-visit-pair-requires (visit-open-claims t) (visit-open-at t) visit-open.Post
+visit-open-visit-pair-requires : (t : ℕ) → visit-open-lts.Need-visit-pair-requires (visit-open-claims t) (visit-open-at t) visit-open.Post
 visit-open-visit-pair-requires t c κs =
     let at-start = c .before .before .before .before in
     let at-kind-of = c .before .before .kind-of in
     let at-match = c .before .match in
     (omega (arith, at-start .pre .0), (at-start .pre .1 .0, (at-start .pre .1 .1 .0, inl (sym (at-kind-of .ensures .0) ∙ at-match .keys3))))
 
-pub visit-open-visit-pair-requires-2 : (t : ℕ) → visit-open-lts.Need-visit-pair-requires-2 (visit-open-claims t) (visit-open-at t) visit-open.Post
+visit-open-visit-pair-requires-2 : (t : ℕ) → visit-open-lts.Need-visit-pair-requires-2 (visit-open-claims t) (visit-open-at t) visit-open.Post
 visit-open-visit-pair-requires-2 t c κs =
     let at-start = c .before .before .before .before in
     let at-kind-of = c .before .before .kind-of in
     let at-match = c .before .match in
     (omega (arith, at-start .pre .0), (at-start .pre .1 .0, (at-start .pre .1 .1 .0, inr (sym (at-kind-of .ensures .0) ∙ at-match .keys4))))
 
-pub visit-open-apply-requires : (t : ℕ) → visit-open-lts.Need-apply-requires (visit-open-claims t) (visit-open-at t) visit-open.Post
+visit-open-apply-requires : (t : ℕ) → visit-open-lts.Need-apply-requires (visit-open-claims t) (visit-open-at t) visit-open.Post
 visit-open-apply-requires t c κs =
     let at-start = c .before .before .before .before in
     let at-match = c .before .match in
     let at-kind-of = c .before .before .kind-of in
     (omega (arith, at-start .pre .0), (at-start .pre .1 .0, (at-start .pre .1 .1 .0, ((λ e. absurd (at-match .rest .0 .0 .1 (at-kind-of .ensures .0 ∙ e))), (λ k. absurd (not-both k (at-start .pre .1 .1 .1)))))))
 
-pub visit-open-returns : (t : ℕ) → visit-open-lts.Need-returns (visit-open-claims t) (visit-open-at t) visit-open.Post
+visit-open-returns : (t : ℕ) → visit-open-lts.Need-returns (visit-open-claims t) (visit-open-at t) visit-open.Post
 visit-open-returns t c =
     let at-start = c .before .before .before .before .before .before .before .before .before .before .before in
     let at-answer = c .answer in
@@ -105,7 +105,7 @@ visit-open-returns t c =
       refl,
     )
 
-pub visit-open-returns-2 : (t : ℕ) → visit-open-lts.Need-returns-2 (visit-open-claims t) (visit-open-at t) visit-open.Post
+visit-open-returns-2 : (t : ℕ) → visit-open-lts.Need-returns-2 (visit-open-claims t) (visit-open-at t) visit-open.Post
 visit-open-returns-2 t c =
     let at-start = c .before .before .before .before .before .before .before in
     let at-kind-of = c .before .before .before .before .before .kind-of in
@@ -121,19 +121,42 @@ visit-open-returns-2 t c =
       at-use-rule .ensures .1,
     )
 
-pub visit-open-returns-3 : (t : ℕ) → visit-open-lts.Need-returns-3 (visit-open-claims t) (visit-open-at t) visit-open.Post
+visit-open-returns-3 : (t : ℕ) → visit-open-lts.Need-returns-3 (visit-open-claims t) (visit-open-at t) visit-open.Post
 visit-open-returns-3 t c =
     let at-start = c .before .before .before .before .before in
     let at-visit-pair = c .visit-pair in
     (plain-opens (lent (at-start .args .table .now .now) (at-start .args .given .now)) (at-start .args .line .now .now) (at-start .args .work .now .now) (at-start .args .spot) (at-start .args .node) (posIn (at-start .args .spot)) (at-start .pre .1 .0) (at-start .pre .1 .1 .1) _ _ (at-visit-pair .ensures .0), at-visit-pair .ensures .1)
 
-pub visit-open-returns-4 : (t : ℕ) → visit-open-lts.Need-returns-4 (visit-open-claims t) (visit-open-at t) visit-open.Post
+visit-open-returns-4 : (t : ℕ) → visit-open-lts.Need-returns-4 (visit-open-claims t) (visit-open-at t) visit-open.Post
 visit-open-returns-4 t c =
     let at-start = c .before .before .before .before .before in
     let at-visit-pair2 = c .visit-pair2 in
     (plain-opens (lent (at-start .args .table .now .now) (at-start .args .given .now)) (at-start .args .line .now .now) (at-start .args .work .now .now) (at-start .args .spot) (at-start .args .node) (posIn (at-start .args .spot)) (at-start .pre .1 .0) (at-start .pre .1 .1 .1) _ _ (at-visit-pair2 .ensures .0), at-visit-pair2 .ensures .1)
 
-pub visit-open-returns-5 : (t : ℕ) → visit-open-lts.Need-returns-5 (visit-open-claims t) (visit-open-at t) visit-open.Post
+visit-open-returns-5 : (t : ℕ) → visit-open-lts.Need-returns-5 (visit-open-claims t) (visit-open-at t) visit-open.Post
 visit-open-returns-5 t c =
     let at-apply = c .apply in
     (at-apply .ensures .0, at-apply .ensures .1)
+
+-- All of it.
+pub visit-open-closed : (M : Type 1) (t : ℕ) → visit-open-lts.Closed (visit-open-claims t) (visit-open-at t) visit-open.Post M
+visit-open-closed M t =
+    visit-open-lts.spec (visit-open-claims t)
+    (visit-open-at t)
+    visit-open.Post
+    (visit-open-kind-of-requires t)
+    (visit-open-a-of-requires t)
+    (visit-open-b-of-requires t)
+    (visit-open-pos-of-requires t)
+    (visit-open-range-end-requires t)
+    (visit-open-answer-requires t)
+    (visit-open-a-of-requires-2 t)
+    (visit-open-use-rule-requires t)
+    (visit-open-visit-pair-requires t)
+    (visit-open-visit-pair-requires-2 t)
+    (visit-open-apply-requires t)
+    (visit-open-returns t)
+    (visit-open-returns-2 t)
+    (visit-open-returns-3 t)
+    (visit-open-returns-4 t)
+    (visit-open-returns-5 t)

@@ -15,19 +15,19 @@ use Rattle.visits.proofs.Ready.{node-known, ready-at}
 use Rattle.visits.proofs.ByKind.{apply-sequence, apply-choice, sequence-children, choice-children}
 use Rattle.visits.proofs.+apply+use_free+use_live+use_rule+visit+visit_choice+visit_not+visit_open+visit_pair+visit_repetition+visit_sequence.Proof.Ranks.{visit-choice-below, visit-pair-at, visit-sequence-below}
 
-abbrev pub visit-pair-claims : ℕ → visit-pair-lts.Claims
+abbrev visit-pair-claims : ℕ → visit-pair-lts.Claims
 visit-pair-claims t = (a-of-reads.Asked, a-of-reads.Learnt, b-of-reads.Asked, b-of-reads.Learnt, kind-of-reads.Asked, kind-of-reads.Learnt, visit-sequence-below t, visit-sequence.Post, visit-choice-below t, visit-choice.Post)
 
-pub visit-pair-a-of-requires : (t : ℕ) → visit-pair-lts.Need-a-of-requires (visit-pair-claims t) (visit-pair-at t) visit-pair.Post
+visit-pair-a-of-requires : (t : ℕ) → visit-pair-lts.Need-a-of-requires (visit-pair-claims t) (visit-pair-at t) visit-pair.Post
 visit-pair-a-of-requires t c κs = node-known (c .before .pre .1 .0)
 
-pub visit-pair-b-of-requires : (t : ℕ) → visit-pair-lts.Need-b-of-requires (visit-pair-claims t) (visit-pair-at t) visit-pair.Post
+visit-pair-b-of-requires : (t : ℕ) → visit-pair-lts.Need-b-of-requires (visit-pair-claims t) (visit-pair-at t) visit-pair.Post
 visit-pair-b-of-requires t c κs = node-known (c .before .before .before .pre .1 .0)
 
-pub visit-pair-kind-of-requires : (t : ℕ) → visit-pair-lts.Need-kind-of-requires (visit-pair-claims t) (visit-pair-at t) visit-pair.Post
+visit-pair-kind-of-requires : (t : ℕ) → visit-pair-lts.Need-kind-of-requires (visit-pair-claims t) (visit-pair-at t) visit-pair.Post
 visit-pair-kind-of-requires t c κs = node-known (c .before .before .before .before .before .pre .1 .0)
 
-pub visit-pair-visit-sequence-requires : (t : ℕ) → visit-pair-lts.Need-visit-sequence-requires (visit-pair-claims t) (visit-pair-at t) visit-pair.Post
+visit-pair-visit-sequence-requires : (t : ℕ) → visit-pair-lts.Need-visit-sequence-requires (visit-pair-claims t) (visit-pair-at t) visit-pair.Post
 visit-pair-visit-sequence-requires t c κs =
     let at-start = c .before .before .before .before .before .before .before .before in
     let at-a-of = c .before .before .before .before .before .before .a-of in
@@ -40,7 +40,7 @@ visit-pair-visit-sequence-requires t c κs =
     let k = sequence-children _ _ (ready .fit) (at-start .args .node) (ready .node-in) (sym (at-kind-of .ensures .0) ∙ at-if1 .taken) in
     (omega (arith, at-start .pre .0), (ready-at _ ready (omega arith), (at-start .pre .1 .1 .0, omega arith)))
 
-pub visit-pair-returns : (t : ℕ) → visit-pair-lts.Need-returns (visit-pair-claims t) (visit-pair-at t) visit-pair.Post
+visit-pair-returns : (t : ℕ) → visit-pair-lts.Need-returns (visit-pair-claims t) (visit-pair-at t) visit-pair.Post
 visit-pair-returns t c =
     let at-start = c .before .before .before .before .before .before .before .before .before in
     let at-kind-of = c .before .before .before .kind-of in
@@ -56,7 +56,7 @@ visit-pair-returns t c =
       at-visit-sequence .ensures .1,
     )
 
-pub visit-pair-visit-choice-requires : (t : ℕ) → visit-pair-lts.Need-visit-choice-requires (visit-pair-claims t) (visit-pair-at t) visit-pair.Post
+visit-pair-visit-choice-requires : (t : ℕ) → visit-pair-lts.Need-visit-choice-requires (visit-pair-claims t) (visit-pair-at t) visit-pair.Post
 visit-pair-visit-choice-requires t c κs =
     let at-start = c .before .before .before .before .before .before .before .before in
     let at-a-of = c .before .before .before .before .before .before .a-of in
@@ -70,7 +70,7 @@ visit-pair-visit-choice-requires t c κs =
     let k = choice-children _ _ (ready .fit) (at-start .args .node) (ready .node-in) four in
     (omega (arith, at-start .pre .0), (ready-at _ ready (omega arith), (at-start .pre .1 .1 .0, omega arith)))
 
-pub visit-pair-returns-2 : (t : ℕ) → visit-pair-lts.Need-returns-2 (visit-pair-claims t) (visit-pair-at t) visit-pair.Post
+visit-pair-returns-2 : (t : ℕ) → visit-pair-lts.Need-returns-2 (visit-pair-claims t) (visit-pair-at t) visit-pair.Post
 visit-pair-returns-2 t c =
     let at-start = c .before .before .before .before .before .before .before .before .before in
     let at-if1 = c .before .before .if1 in
@@ -86,3 +86,17 @@ visit-pair-returns-2 t c =
       },
       at-visit-choice .ensures .1,
     )
+
+-- All of it.
+pub visit-pair-closed : (M : Type 1) (t : ℕ) → visit-pair-lts.Closed (visit-pair-claims t) (visit-pair-at t) visit-pair.Post M
+visit-pair-closed M t =
+    visit-pair-lts.spec (visit-pair-claims t)
+    (visit-pair-at t)
+    visit-pair.Post
+    (visit-pair-a-of-requires t)
+    (visit-pair-b-of-requires t)
+    (visit-pair-kind-of-requires t)
+    (visit-pair-visit-sequence-requires t)
+    (visit-pair-returns t)
+    (visit-pair-visit-choice-requires t)
+    (visit-pair-returns-2 t)

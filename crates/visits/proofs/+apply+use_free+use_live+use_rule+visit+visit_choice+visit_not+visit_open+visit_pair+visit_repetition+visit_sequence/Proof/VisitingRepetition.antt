@@ -21,22 +21,22 @@ use Rattle.visits.proofs.Depth.{starts-moved, ends-moved}
 use Rattle.visits.proofs.Pairs.{matched, starts-second, repetition-second, repetition-joined, join-ready}
 use Rattle.visits.proofs.+apply+use_free+use_live+use_rule+visit+visit_choice+visit_not+visit_open+visit_pair+visit_repetition+visit_sequence.Proof.Ranks.{visit-below, visit-repetition-at}
 
-abbrev pub visit-repetition-claims : ℕ → visit-repetition-lts.Claims
+abbrev visit-repetition-claims : ℕ → visit-repetition-lts.Claims
 visit-repetition-claims t = (pos-of-reads.Asked, pos-of-reads.Learnt, visit-below t, visit.Post, end-of-reads.Asked, end-of-reads.Learnt, answer-reads.Asked, answer-reads.Learnt, moved-reads.Asked, moved-reads.Learnt, list-of-reads.Asked, list-of-reads.Learnt, joined-reads.Asked, joined-reads.Learnt)
 
-pub visit-repetition-pos-of-requires : (t : ℕ) → visit-repetition-lts.Need-pos-of-requires (visit-repetition-claims t) (visit-repetition-at t) visit-repetition.Post
+visit-repetition-pos-of-requires : (t : ℕ) → visit-repetition-lts.Need-pos-of-requires (visit-repetition-claims t) (visit-repetition-at t) visit-repetition.Post
 visit-repetition-pos-of-requires t c κs = tt
 
-pub visit-repetition-visit-requires : (t : ℕ) → visit-repetition-lts.Need-visit-requires (visit-repetition-claims t) (visit-repetition-at t) visit-repetition.Post
+visit-repetition-visit-requires : (t : ℕ) → visit-repetition-lts.Need-visit-requires (visit-repetition-claims t) (visit-repetition-at t) visit-repetition.Post
 visit-repetition-visit-requires t c κs =
     let at-start = c .before .before in
     let ready = at-start .pre .1 .0 in
     (omega (arith, at-start .pre .0), ready)
 
-pub visit-repetition-end-of-requires : (t : ℕ) → visit-repetition-lts.Need-end-of-requires (visit-repetition-claims t) (visit-repetition-at t) visit-repetition.Post
+visit-repetition-end-of-requires : (t : ℕ) → visit-repetition-lts.Need-end-of-requires (visit-repetition-claims t) (visit-repetition-at t) visit-repetition.Post
 visit-repetition-end-of-requires t c κs = tt
 
-pub visit-repetition-returns : (t : ℕ) → visit-repetition-lts.Need-returns (visit-repetition-claims t) (visit-repetition-at t) visit-repetition.Post
+visit-repetition-returns : (t : ℕ) → visit-repetition-lts.Need-returns (visit-repetition-claims t) (visit-repetition-at t) visit-repetition.Post
 visit-repetition-returns t c =
     let at-start = c .before .before .before .before .before in
     let at-visit = c .before .before .visit in
@@ -47,10 +47,10 @@ visit-repetition-returns t c =
     let first = at-visit .ensures .0 in
     (record { came = rep-stop _ _ (ready .fit) visiting _ _ (first .came) _ (sym (at-end-of .ensures) ∙ at-if1 .taken); cells = first .cells }, at-visit .ensures .1)
 
-pub visit-repetition-answer-requires : (t : ℕ) → visit-repetition-lts.Need-answer-requires (visit-repetition-claims t) (visit-repetition-at t) visit-repetition.Post
+visit-repetition-answer-requires : (t : ℕ) → visit-repetition-lts.Need-answer-requires (visit-repetition-claims t) (visit-repetition-at t) visit-repetition.Post
 visit-repetition-answer-requires t c κs = tt
 
-pub visit-repetition-returns-2 : (t : ℕ) → visit-repetition-lts.Need-returns-2 (visit-repetition-claims t) (visit-repetition-at t) visit-repetition.Post
+visit-repetition-returns-2 : (t : ℕ) → visit-repetition-lts.Need-returns-2 (visit-repetition-claims t) (visit-repetition-at t) visit-repetition.Post
 visit-repetition-returns-2 t c =
     let at-start = c .before .before .before .before .before .before .before in
     let at-visit = c .before .before .before .before .visit in
@@ -69,10 +69,10 @@ visit-repetition-returns-2 t c =
       at-visit .ensures .1,
     )
 
-pub visit-repetition-answer-requires-2 : (t : ℕ) → visit-repetition-lts.Need-answer-requires-2 (visit-repetition-claims t) (visit-repetition-at t) visit-repetition.Post
+visit-repetition-answer-requires-2 : (t : ℕ) → visit-repetition-lts.Need-answer-requires-2 (visit-repetition-claims t) (visit-repetition-at t) visit-repetition.Post
 visit-repetition-answer-requires-2 t c κs = tt
 
-pub visit-repetition-returns-3 : (t : ℕ) → visit-repetition-lts.Need-returns-3 (visit-repetition-claims t) (visit-repetition-at t) visit-repetition.Post
+visit-repetition-returns-3 : (t : ℕ) → visit-repetition-lts.Need-returns-3 (visit-repetition-claims t) (visit-repetition-at t) visit-repetition.Post
 visit-repetition-returns-3 t c =
     let at-start = c .before .before .before .before .before .before .before .before in
     let at-visit = c .before .before .before .before .before .visit in
@@ -91,10 +91,10 @@ visit-repetition-returns-3 t c =
       at-visit .ensures .1,
     )
 
-pub visit-repetition-moved-requires : (t : ℕ) → visit-repetition-lts.Need-moved-requires (visit-repetition-claims t) (visit-repetition-at t) visit-repetition.Post
+visit-repetition-moved-requires : (t : ℕ) → visit-repetition-lts.Need-moved-requires (visit-repetition-claims t) (visit-repetition-at t) visit-repetition.Post
 visit-repetition-moved-requires t c κs = tt
 
-pub visit-repetition-visit-requires-2 : (t : ℕ) → visit-repetition-lts.Need-visit-requires-2 (visit-repetition-claims t) (visit-repetition-at t) visit-repetition.Post
+visit-repetition-visit-requires-2 : (t : ℕ) → visit-repetition-lts.Need-visit-requires-2 (visit-repetition-claims t) (visit-repetition-at t) visit-repetition.Post
 visit-repetition-visit-requires-2 t c κs =
     let at-start = c .before .before .before .before .before .before .before .before .before in
     let at-visit = c .before .before .before .before .before .before .visit in
@@ -108,10 +108,10 @@ visit-repetition-visit-requires-2 t c κs =
     let match = matched (at-end-of .ensures) (first .came .end-most) (at-if1 .left) (at-if2 .left) in
     (omega (arith, at-start .pre .0, at-moved .ensures .left), starts-moved _ _ (at-moved .ensures) _ (starts-second _ _ _ _ _ _ ready first _ (at-end-of .ensures) match _ (room .1)))
 
-pub visit-repetition-end-of-requires-2 : (t : ℕ) → visit-repetition-lts.Need-end-of-requires-2 (visit-repetition-claims t) (visit-repetition-at t) visit-repetition.Post
+visit-repetition-end-of-requires-2 : (t : ℕ) → visit-repetition-lts.Need-end-of-requires-2 (visit-repetition-claims t) (visit-repetition-at t) visit-repetition.Post
 visit-repetition-end-of-requires-2 t c κs = tt
 
-pub visit-repetition-returns-4 : (t : ℕ) → visit-repetition-lts.Need-returns-4 (visit-repetition-claims t) (visit-repetition-at t) visit-repetition.Post
+visit-repetition-returns-4 : (t : ℕ) → visit-repetition-lts.Need-returns-4 (visit-repetition-claims t) (visit-repetition-at t) visit-repetition.Post
 visit-repetition-returns-4 t c =
     let at-end-of = c .before .before .before .before .before .before .before .before .end-of in
     let at-start = c .before .before .before .before .before .before .before .before .before .before .before .before in
@@ -132,17 +132,17 @@ visit-repetition-returns-4 t c =
     let same = at-visit2 .ensures .1 ∙ at-visit .ensures .1 in
     (repetition-second _ _ _ _ _ _ ready first _ (at-end-of .ensures) match _ _ next _ (at-end-of2 .ensures) (at-if4 .taken) on, same)
 
-pub visit-repetition-slice-aggregate-joined :
+visit-repetition-slice-aggregate-joined :
     (t : ℕ) → visit-repetition-lts.Need-slice-aggregate-joined (visit-repetition-claims t) (visit-repetition-at t) visit-repetition.Post
 visit-repetition-slice-aggregate-joined t c = refl
 
-pub visit-repetition-list-of-requires : (t : ℕ) → visit-repetition-lts.Need-list-of-requires (visit-repetition-claims t) (visit-repetition-at t) visit-repetition.Post
+visit-repetition-list-of-requires : (t : ℕ) → visit-repetition-lts.Need-list-of-requires (visit-repetition-claims t) (visit-repetition-at t) visit-repetition.Post
 visit-repetition-list-of-requires t c κs = tt
 
-pub visit-repetition-list-of-requires-2 : (t : ℕ) → visit-repetition-lts.Need-list-of-requires-2 (visit-repetition-claims t) (visit-repetition-at t) visit-repetition.Post
+visit-repetition-list-of-requires-2 : (t : ℕ) → visit-repetition-lts.Need-list-of-requires-2 (visit-repetition-claims t) (visit-repetition-at t) visit-repetition.Post
 visit-repetition-list-of-requires-2 t c κs = tt
 
-pub visit-repetition-joined-requires : (t : ℕ) → visit-repetition-lts.Need-joined-requires (visit-repetition-claims t) (visit-repetition-at t) visit-repetition.Post
+visit-repetition-joined-requires : (t : ℕ) → visit-repetition-lts.Need-joined-requires (visit-repetition-claims t) (visit-repetition-at t) visit-repetition.Post
 visit-repetition-joined-requires t c κs =
     let at-start = c .before .before .before .before .before .before .before .before .before .before .before .before .before .before .before in
     let at-visit = c .before .before .before .before .before .before .before .before .before .before .before .before .visit in
@@ -161,7 +161,7 @@ visit-repetition-joined-requires t c κs =
     let match = matched (at-end-of .ensures) (first .came .end-most) (at-if1 .left) (at-if2 .left) in
     join-ready _ _ _ _ _ _ ready first _ (at-end-of .ensures) match _ _ next _ (at-end-of2 .ensures) (at-if4 .left) (at-list-of .ensures) (at-list-of2 .ensures)
 
-pub visit-repetition-returns-5 : (t : ℕ) → visit-repetition-lts.Need-returns-5 (visit-repetition-claims t) (visit-repetition-at t) visit-repetition.Post
+visit-repetition-returns-5 : (t : ℕ) → visit-repetition-lts.Need-returns-5 (visit-repetition-claims t) (visit-repetition-at t) visit-repetition.Post
 visit-repetition-returns-5 t c =
     let at-end-of = c .before .before .before .before .before .before .before .before .before .before .before .before .end-of in
     let at-start = c .before .before .before .before .before .before .before .before .before .before .before .before .before .before .before .before in
@@ -188,3 +188,27 @@ visit-repetition-returns-5 t c =
           (at-list-of .ensures) (at-list-of2 .ensures) (room .0) _ (at-joined .ensures .0) (at-joined .ensures .1) on,
       same,
     )
+
+-- All of it.
+pub visit-repetition-closed : (M : Type 1) (t : ℕ) → visit-repetition-lts.Closed (visit-repetition-claims t) (visit-repetition-at t) visit-repetition.Post M
+visit-repetition-closed M t =
+    visit-repetition-lts.spec (visit-repetition-claims t)
+    (visit-repetition-at t)
+    visit-repetition.Post
+    (visit-repetition-pos-of-requires t)
+    (visit-repetition-visit-requires t)
+    (visit-repetition-end-of-requires t)
+    (visit-repetition-returns t)
+    (visit-repetition-answer-requires t)
+    (visit-repetition-returns-2 t)
+    (visit-repetition-answer-requires-2 t)
+    (visit-repetition-returns-3 t)
+    (visit-repetition-moved-requires t)
+    (visit-repetition-visit-requires-2 t)
+    (visit-repetition-end-of-requires-2 t)
+    (visit-repetition-returns-4 t)
+    (visit-repetition-slice-aggregate-joined t)
+    (visit-repetition-list-of-requires t)
+    (visit-repetition-list-of-requires-2 t)
+    (visit-repetition-joined-requires t)
+    (visit-repetition-returns-5 t)

@@ -17,19 +17,19 @@ use Rattle.visits.proofs.Depth.{starts-moved, ends-moved}
 use Rattle.visits.proofs.Pairs.{starts-second, sequence-second, sequence-joined, join-ready}
 use Rattle.visits.proofs.+apply+use_free+use_live+use_rule+visit+visit_choice+visit_not+visit_open+visit_pair+visit_repetition+visit_sequence.Proof.Ranks.{visit-below, visit-sequence-at}
 
-abbrev pub visit-sequence-claims : ℕ → visit-sequence-lts.Claims
+abbrev visit-sequence-claims : ℕ → visit-sequence-lts.Claims
 visit-sequence-claims t = (visit-below t, visit.Post, end-of-reads.Asked, end-of-reads.Learnt, moved-reads.Asked, moved-reads.Learnt, list-of-reads.Asked, list-of-reads.Learnt, joined-reads.Asked, joined-reads.Learnt)
 
-pub visit-sequence-visit-requires : (t : ℕ) → visit-sequence-lts.Need-visit-requires (visit-sequence-claims t) (visit-sequence-at t) visit-sequence.Post
+visit-sequence-visit-requires : (t : ℕ) → visit-sequence-lts.Need-visit-requires (visit-sequence-claims t) (visit-sequence-at t) visit-sequence.Post
 visit-sequence-visit-requires t c κs =
     let at-start = c .before in
     let ready = at-start .pre .1 .0 in
     (omega (arith, at-start .pre .0), ready)
 
-pub visit-sequence-end-of-requires : (t : ℕ) → visit-sequence-lts.Need-end-of-requires (visit-sequence-claims t) (visit-sequence-at t) visit-sequence.Post
+visit-sequence-end-of-requires : (t : ℕ) → visit-sequence-lts.Need-end-of-requires (visit-sequence-claims t) (visit-sequence-at t) visit-sequence.Post
 visit-sequence-end-of-requires t c κs = tt
 
-pub visit-sequence-returns : (t : ℕ) → visit-sequence-lts.Need-returns (visit-sequence-claims t) (visit-sequence-at t) visit-sequence.Post
+visit-sequence-returns : (t : ℕ) → visit-sequence-lts.Need-returns (visit-sequence-claims t) (visit-sequence-at t) visit-sequence.Post
 visit-sequence-returns t c =
     let at-start = c .before .before .before .before in
     let at-visit = c .before .before .visit in
@@ -40,10 +40,10 @@ visit-sequence-returns t c =
     let first = at-visit .ensures .0 in
     (record { came = seq-first _ _ (ready .fit) visiting _ _ (first .came) _ (omega (arith, at-end-of .ensures, at-if1 .taken)); cells = first .cells }, at-visit .ensures .1)
 
-pub visit-sequence-moved-requires : (t : ℕ) → visit-sequence-lts.Need-moved-requires (visit-sequence-claims t) (visit-sequence-at t) visit-sequence.Post
+visit-sequence-moved-requires : (t : ℕ) → visit-sequence-lts.Need-moved-requires (visit-sequence-claims t) (visit-sequence-at t) visit-sequence.Post
 visit-sequence-moved-requires t c κs = tt
 
-pub visit-sequence-visit-requires-2 : (t : ℕ) → visit-sequence-lts.Need-visit-requires-2 (visit-sequence-claims t) (visit-sequence-at t) visit-sequence.Post
+visit-sequence-visit-requires-2 : (t : ℕ) → visit-sequence-lts.Need-visit-requires-2 (visit-sequence-claims t) (visit-sequence-at t) visit-sequence.Post
 visit-sequence-visit-requires-2 t c κs =
     let at-start = c .before .before .before .before .before .before in
     let at-visit = c .before .before .before .before .visit in
@@ -55,10 +55,10 @@ visit-sequence-visit-requires-2 t c κs =
     let first = at-visit .ensures .0 in
     (omega (arith, at-start .pre .0, at-moved .ensures .left), starts-moved _ _ (at-moved .ensures) _ (starts-second _ _ _ _ _ _ ready first _ (at-end-of .ensures) (at-if1 .left) _ (room .1)))
 
-pub visit-sequence-end-of-requires-2 : (t : ℕ) → visit-sequence-lts.Need-end-of-requires-2 (visit-sequence-claims t) (visit-sequence-at t) visit-sequence.Post
+visit-sequence-end-of-requires-2 : (t : ℕ) → visit-sequence-lts.Need-end-of-requires-2 (visit-sequence-claims t) (visit-sequence-at t) visit-sequence.Post
 visit-sequence-end-of-requires-2 t c κs = tt
 
-pub visit-sequence-returns-2 : (t : ℕ) → visit-sequence-lts.Need-returns-2 (visit-sequence-claims t) (visit-sequence-at t) visit-sequence.Post
+visit-sequence-returns-2 : (t : ℕ) → visit-sequence-lts.Need-returns-2 (visit-sequence-claims t) (visit-sequence-at t) visit-sequence.Post
 visit-sequence-returns-2 t c =
     let at-start = c .before .before .before .before .before .before .before .before .before in
     let at-visit = c .before .before .before .before .before .before .before .visit in
@@ -74,16 +74,16 @@ visit-sequence-returns-2 t c =
     let same = at-visit2 .ensures .1 ∙ at-visit .ensures .1 in
     (sequence-second _ _ _ _ _ _ ready first _ (at-end-of .ensures) (at-if1 .left) _ _ next _ (at-end-of2 .ensures) (at-if2 .taken), same)
 
-pub visit-sequence-slice-aggregate-joined : (t : ℕ) → visit-sequence-lts.Need-slice-aggregate-joined (visit-sequence-claims t) (visit-sequence-at t) visit-sequence.Post
+visit-sequence-slice-aggregate-joined : (t : ℕ) → visit-sequence-lts.Need-slice-aggregate-joined (visit-sequence-claims t) (visit-sequence-at t) visit-sequence.Post
 visit-sequence-slice-aggregate-joined t c = refl
 
-pub visit-sequence-list-of-requires : (t : ℕ) → visit-sequence-lts.Need-list-of-requires (visit-sequence-claims t) (visit-sequence-at t) visit-sequence.Post
+visit-sequence-list-of-requires : (t : ℕ) → visit-sequence-lts.Need-list-of-requires (visit-sequence-claims t) (visit-sequence-at t) visit-sequence.Post
 visit-sequence-list-of-requires t c κs = tt
 
-pub visit-sequence-list-of-requires-2 : (t : ℕ) → visit-sequence-lts.Need-list-of-requires-2 (visit-sequence-claims t) (visit-sequence-at t) visit-sequence.Post
+visit-sequence-list-of-requires-2 : (t : ℕ) → visit-sequence-lts.Need-list-of-requires-2 (visit-sequence-claims t) (visit-sequence-at t) visit-sequence.Post
 visit-sequence-list-of-requires-2 t c κs = tt
 
-pub visit-sequence-joined-requires : (t : ℕ) → visit-sequence-lts.Need-joined-requires (visit-sequence-claims t) (visit-sequence-at t) visit-sequence.Post
+visit-sequence-joined-requires : (t : ℕ) → visit-sequence-lts.Need-joined-requires (visit-sequence-claims t) (visit-sequence-at t) visit-sequence.Post
 visit-sequence-joined-requires t c κs =
     let at-start = c .before .before .before .before .before .before .before .before .before .before .before .before in
     let at-visit = c .before .before .before .before .before .before .before .before .before .before .visit in
@@ -100,7 +100,7 @@ visit-sequence-joined-requires t c κs =
     let next = ends-moved _ _ (at-moved .ensures) _ _ (at-visit2 .ensures .0) in
     join-ready _ _ _ _ _ _ ready first _ (at-end-of .ensures) (at-if1 .left) _ _ next _ (at-end-of2 .ensures) (at-if2 .left) (at-list-of .ensures) (at-list-of2 .ensures)
 
-pub visit-sequence-returns-3 : (t : ℕ) → visit-sequence-lts.Need-returns-3 (visit-sequence-claims t) (visit-sequence-at t) visit-sequence.Post
+visit-sequence-returns-3 : (t : ℕ) → visit-sequence-lts.Need-returns-3 (visit-sequence-claims t) (visit-sequence-at t) visit-sequence.Post
 visit-sequence-returns-3 t c =
     let at-start = c .before .before .before .before .before .before .before .before .before .before .before .before .before in
     let at-visit = c .before .before .before .before .before .before .before .before .before .before .before .visit in
@@ -122,3 +122,22 @@ visit-sequence-returns-3 t c =
           (at-list-of .ensures) (at-list-of2 .ensures) (room .0) _ (at-joined .ensures .0) (at-joined .ensures .1),
       same,
     )
+
+-- All of it.
+pub visit-sequence-closed : (M : Type 1) (t : ℕ) → visit-sequence-lts.Closed (visit-sequence-claims t) (visit-sequence-at t) visit-sequence.Post M
+visit-sequence-closed M t =
+    visit-sequence-lts.spec (visit-sequence-claims t)
+    (visit-sequence-at t)
+    visit-sequence.Post
+    (visit-sequence-visit-requires t)
+    (visit-sequence-end-of-requires t)
+    (visit-sequence-returns t)
+    (visit-sequence-moved-requires t)
+    (visit-sequence-visit-requires-2 t)
+    (visit-sequence-end-of-requires-2 t)
+    (visit-sequence-returns-2 t)
+    (visit-sequence-slice-aggregate-joined t)
+    (visit-sequence-list-of-requires t)
+    (visit-sequence-list-of-requires-2 t)
+    (visit-sequence-joined-requires t)
+    (visit-sequence-returns-3 t)
