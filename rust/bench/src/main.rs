@@ -1,5 +1,5 @@
-//! Times each reader on a thousand lines of three sheets and on long lines,
-//! and its report on small and full tables.
+//! Times each reader on a thousand lines of three sheets, by the visit on lines
+//! of up to 255 bytes, and its report on small and full tables.
 //!
 //! A reading is timed as a whole: check, report, reading, storing, clearing.
 //! Clearing is part of it, since the rules say what is left in the working
@@ -80,14 +80,14 @@ fn main() {
         println!("  ns a line        whole  ratio      rest  ratio   (clearing {clearing:.0})");
         print_columns(&readers, &times, 1.0, 0);
     }
-    for (sheet, visits) in long_lines() {
+    for (sheet, visits) in lines_by_the_visit() {
         let line = &sheet.lines[0];
         let mut lent = Lent::new(sheet.cleared(line));
         let codes = agree(&readers, &sheet, &mut lent);
         let times = time(&readers, &sheet, &mut lent);
         println!();
         println!(
-            "long line, {}: {} bytes, {visits} visits, {codes}",
+            "by the visit, {}: {} bytes, {visits} visits, {codes}",
             sheet.name,
             line.len()
         );
@@ -171,11 +171,14 @@ fn class_sheets() -> [Sheet; 3] {
     ]
 }
 
-/// One line each, with its visits; it is lent just what it needs.
-fn long_lines() -> Vec<(Sheet, u64)> {
+/// One line each, with its visits; it is lent just what it needs. Of the sum
+/// sheet three lengths: what a visit costs should not grow with the line.
+fn lines_by_the_visit() -> Vec<(Sheet, u64)> {
     let ones = |count: usize, between: &str| vec!["1"; count].join(between).into_bytes();
     let long = [
         ("sheet A", sheet_a(), ones(128, "+")),
+        ("sum", sum_sheet(), ones(8, "+")),
+        ("sum", sum_sheet(), ones(32, "+")),
         ("sum", sum_sheet(), ones(128, "+")),
         (
             "decimal comma, free",
