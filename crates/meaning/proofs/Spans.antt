@@ -14,6 +14,11 @@ use Rattle.meaning.specs.Rules as R
 use Rattle.meaning.specs.Report.{MayBeEmpty, of-empty, of-not, of-rep, of-rule, of-seq, of-first, of-second}
 use Rattle.meaning.proofs.Notes.{look-cases}
 
+-- A byte in a range stands inside the line.
+pub fits-inside : (line : List ℕ) (lo hi x : ℕ) → fits line lo hi x ≡ true → x < length line
+unfolding fits
+fits-inside line lo hi x e = ltb-true x (length line) (and-eq-true-iff _ _ .0 (and-eq-true-iff _ _ .0 e .0) .0)
+
 module _ (g : Grammar) (line : List ℕ) where
   -- A match of node p from x to y.
   pub record Span (p : Node) (x y : ℕ) : Type 0 where
@@ -32,10 +37,6 @@ module _ (g : Grammar) (line : List ℕ) where
   abbrev Goes : Goal → ℕ → Answer → Type 0
   Goes (at p) x r = Spanned p x r
   Goes (inc a e ts) x r = Span (root g a) x e → Spanned (root g a) x r
-
-  fits-inside : (lo hi x : ℕ) → fits line lo hi x ≡ true → x < length line
-  unfolding fits
-  fits-inside lo hi x e = ltb-true x (length line) (and-eq-true-iff _ _ .0 (and-eq-true-iff _ _ .0 e .0) .0)
 
   held-case : (a x b w : ℕ) (r q : Answer) (l : List Note) → Spanned (root g a) x r → Held l → ((a ≡ b) × (x ≡ w) × (r ≡ q)) ⊎ (look l b w ≡ some q) → Spanned (root g b) w q
   held-case a x b w r q l s f (inl e) = rw (← e .0, ← e .1, ← e .2) s
@@ -66,7 +67,7 @@ module _ (g : Grammar) (line : List ℕ) where
   pub spans : {l : List Note} {p : Goal} {x n : ℕ} {r : Answer} → Bounded g line l p x r n → Held l → Goes p x r
   spans R.empty1 f = still of-empty
   spans (R.char1 {lo = lo} {hi = hi} {x = x} q) f =
-      let z : x < length line = fits-inside lo hi x q in record { forward = omega arith; inside = λ h. omega arith; empty = λ h. absurd (omega arith) }
+      let z : x < length line = fits-inside line lo hi x q in record { forward = omega arith; inside = λ h. omega arith; empty = λ h. absurd (omega arith) }
   spans (R.char2 q) f = tt
   spans (R.con1 h k) f = both (spans h f) (spans k f) of-seq
   spans (R.con2 h k) f = tt

@@ -18,6 +18,13 @@ pub data Run : Type 0 where
   deep : ℕ → State → Run
   done : Answer → State → Run
 
+-- 01's codes of a refused visit.
+abbrev pub EFFORT : ℕ
+EFFORT = 11
+
+abbrev pub DEEP : ℕ
+DEEP = 12
+
 -- A visit of a node at a position.
 abbrev pub Visit : Type 0
 Visit = ℕ → ℕ → State → Run

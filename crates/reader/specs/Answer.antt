@@ -6,6 +6,8 @@ use mathlib.Core.List.{List, _++_}
 use lib.ListN.{length, drop, replicate}
 use lib.Dec.{ltb, eqb}
 use Rattle.meaning.specs.Grammar.{Trees, fail, ok}
+pub use Rattle.meaning.specs.Reading.{EFFORT, DEEP}
+pub use Rattle.visits.specs.Given.{longestLine, mostAllowance, workNeeded}
 use Rattle.meaning.specs.Reading.{Run, effort, deep, done, read}
 use Rattle.sheet.specs.Table.{nodesOf, grammarOf}
 use Rattle.sheet.specs.Check.{checkOf}
@@ -21,12 +23,6 @@ ALLOW = 9
 abbrev pub WORK : ℕ
 WORK = 10
 
-abbrev pub EFFORT : ℕ
-EFFORT = 11
-
-abbrev pub DEEP : ℕ
-DEEP = 12
-
 abbrev pub FAIL : ℕ
 FAIL = 13
 
@@ -39,13 +35,7 @@ RECORDS = 15
 abbrev pub ROOM : ℕ
 ROOM = 16
 
--- 01: "line over 255 bytes"; "allowance 0 or over 1,000,000"; "tree over 1,000 records".
-abbrev pub longestLine : ℕ
-longestLine = 255
-
-abbrev pub mostAllowance : ℕ
-mostAllowance = 1000000
-
+-- 01: "tree over 1,000 records".
 abbrev pub mostRecords : ℕ
 mostRecords = 1000
 
@@ -61,10 +51,6 @@ pub record Outcome : Type 0 where
 
 abbrev pub numbers : (code place matched visits records : ℕ) → Reading
 numbers code place matched visits records = record { code = code; place = place; matched = matched; visits = visits; records = records }
-
--- 01: "2,048 + 4 x allowance + 2 x n x (L + 1)".
-abbrev pub workNeeded : (allowance nodes long : ℕ) → ℕ
-workNeeded allowance nodes long = 2048 + 4 * allowance + 2 * (nodes * (long + 1))
 
 -- 01: "the first numbers of the working room, as many as the formula says, are zero and the rest as found".
 unfoldable pub cleared : ℕ → List ℕ → List ℕ

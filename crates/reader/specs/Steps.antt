@@ -11,7 +11,7 @@ use Rattle.sheet.specs.Table.{nodesOf, grammarOf}
 use Rattle.sheet.specs.Check.{Accepted}
 use Rattle.cells.specs.Cells.{treesAt}
 use Rattle.cells.specs.Arena.{Arena}
-use Rattle.visits.specs.Says.{FAILED, STOPPED, Visited}
+use Rattle.visits.specs.Says.{FAILED, STOPPED, Visited, Refused}
 use Rattle.reader.specs.declared.Reading.{Reading}
 use Rattle.reader.specs.Answer.{EFFORT, DEEP, longestLine, mostAllowance, workNeeded, runOutcome, Leaves}
 
@@ -35,21 +35,14 @@ pub record Startable (table line work : List ℕ) (allowance : ℕ) (free : Bool
   pub arena : Arena work 0
   pub kept : free ≡ true → (i : ℕ) → 2048 + 4 * allowance ≤ i → i < workNeeded allowance (nodesOf table) (length line) → getD work i 0 ≡ 0
 
--- A refusal, as a result has it; and the visits left.
-pub record Stopped (allowance code place : ℕ) (v : Visited) (s : State) : Type 0 where
-  pub end : v .end ≡ STOPPED
-  pub list : v .list ≡ code * 4096 + place
-  pub small : place < 4096
-  pub left : s .left + v .made ≡ allowance
-
 pub record Ended (allowance end : ℕ) (v : Visited) (s : State) : Type 0 where
   pub at : v .end ≡ end
   pub left : s .left + v .made ≡ allowance
 
 -- A result tells how a run on a line of so many bytes ended.
 abbrev pub Tells : (allowance long : ℕ) (w : List ℕ) (v : Visited) → Run → Type 0
-Tells allowance long w v (effort p s) = Stopped allowance EFFORT p v s
-Tells allowance long w v (deep p s) = Stopped allowance DEEP p v s
+Tells allowance long w v (effort p s) = Refused allowance v EFFORT p s
+Tells allowance long w v (deep p s) = Refused allowance v DEEP p s
 Tells allowance long w v (done fail s) = Ended allowance FAILED v s
 Tells allowance long w v (done (ok e ts) s) = (treesAt w (v .list) ≡ ts) × (e ≤ long) × Ended allowance e v s
 

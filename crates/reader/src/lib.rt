@@ -31,16 +31,12 @@ pub const MOST_ALLOWANCE: u64 = 1000000;
 
 const MOST_RECORDS: u32 = 1000;
 
-// The codes of 01 from LINE on.
+// The codes of 01 from LINE on; those of a refused visit stand in `visits`.
 pub const LINE: u64 = 8;
 
 pub const ALLOW: u64 = 9;
 
 pub const WORK: u64 = 10;
-
-pub const EFFORT: u64 = 11;
-
-pub const DEEP: u64 = 12;
 
 pub const FAIL: u64 = 13;
 
@@ -102,8 +98,8 @@ fn finish(line: &[u8], work: &[u32], room: &mut [u8], whole: bool, answer: u64) 
     let last = visits::end_of(answer);
     let list = visits::list_of(answer);
     if last == visits::STOPPED {
-        let code = list / 4096;
-        let place = list % 4096;
+        let code = list / visits::PLACES;
+        let place = list % visits::PLACES;
         return Reading {
             code: code as u64,
             place: place as u64,

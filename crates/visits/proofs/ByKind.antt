@@ -70,12 +70,9 @@ module _ (given : Given) (line : List ℕ) (fit : Fit given line) where
         let e : kindIn given i ≡ suc (suc (suc (suc (suc (suc (suc n)))))) = k ∙ (let z : 7 + n ≡ suc (suc (suc (suc (suc (suc (suc n)))))) = omega arith in z) in
         applied-as given line fit i _ li e left pos (match-still given line fit words le pos inside)
 
-    pub apply-range : kindIn given i ≡ 1 → (lo hi end : ℕ) → lo ≡ aIn given i → hi ≡ bIn given i → end ≡ endOf (byte pos (fits line lo hi pos))
-        → Came given line w w live made top (result end 0 top made) (λ l s. applies given line left l i pos s)
+    pub apply-range : kindIn given i ≡ 1 → Came given line w w live made top (result (endOf (byte pos (fits line (aIn given i) (bIn given i) pos))) 0 top made) (λ l s. applies given line left l i pos s)
     unfolding apply
-    apply-range k lo hi end el eh e =
-        let c = range-came lo hi pos end words le e in
-        applied-as given line fit i 1 li k left pos (rw (el, eh) at c)
+    apply-range k = applied-as given line fit i 1 li k left pos (range-came (aIn given i) (bIn given i) pos _ words le refl)
 
   -- A use where answers are kept, and where they aren't.
   module _ {w w′ : List ℕ} {live made top : ℕ} {r : Visited} (left a pos : ℕ) where

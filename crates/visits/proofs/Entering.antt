@@ -1,14 +1,15 @@
 -- A visit before its work: EFFORT, DEEP, or one visit more that is counted and open.
 use mathlib.Core.Path.{_≡_, refl, sym, ap}
-use mathlib.Core.Bool.{Bool, true, false, and-eq-true-iff}
+use mathlib.Core.Bool.{Bool, true, false}
 use mathlib.Core.List.{List}
 use Prim.Native.Nat.{ℕ, zero, suc, _+_, _*_, _<_, _≤_}
 use native.Mathlib.Omega.{arith}
 use lib.ListN.{length, getD, set}
-use borrow.Author.Tests.{ltb-true, lt-ltb, le-ltb, le-leb, lt-leb}
+use borrow.Author.Tests.{lt-ltb, le-ltb, le-leb, lt-leb}
 use native.Mathlib.Numerals.{add-one}
 use Rattle.meaning.specs.Grammar.{fits, Note, Grammar}
 use Rattle.meaning.specs.Reading.{State, effort, deep, done, Visit, byte, counted, visited, visit}
+use Rattle.meaning.proofs.Spans.{fits-inside}
 use Rattle.visits.specs.Given.{Given, allowanceIn, keepsIn, grammarIn, Fit}
 use Rattle.visits.specs.Words.{Stands, Words}
 use Rattle.visits.specs.Says.{Visited, FAILED, STOPPED, endOf, Came}
@@ -79,15 +80,11 @@ module _ (given : Given) (line : List ℕ) (fit : Fit given line) where
       }
 
   -- One byte in a range.
-  fits-inside : (lo hi x : ℕ) → fits line lo hi x ≡ true → x < length line
-  unfolding fits
-  fits-inside lo hi x e = ltb-true x (length line) (and-eq-true-iff _ _ .0 (and-eq-true-iff _ _ .0 e .0) .0)
-
   pub range-in : {w : List ℕ} {live made top : ℕ} (lo hi x : ℕ) → Words given line w live top → made ≤ allowanceIn given → fits line lo hi x ≡ true
       → Came given line w w live made top (result (x + 1) 0 top made) (λ l s. done (byte x (fits line lo hi x)) s)
   unfolding byte
   range-in lo hi x words le e =
-      let z : x < length line = fits-inside lo hi x e in
+      let z : x < length line = fits-inside line lo hi x e in
       let f : x + 1 ≡ suc x = omega arith in
       rw f (came-as given line (fit .short) _ (match-still given line fit words le (suc x) (omega arith)) (λ l s. ap (λ b. done (byte x b) s) (sym e)))
 

@@ -1,6 +1,7 @@
 -- What a reading is given: the table of the sheet, and three numbers, the allowance, whether answers are kept, and where the nodes start in the table.
-use Prim.Native.Nat.{ℕ, _+_, _*_, _/_, _%_, _≤_}
+use Prim.Native.Nat.{ℕ, _+_, _*_, _/_, _%_, _<_, _≤_}
 use mathlib.Core.Path.{_≡_}
+use mathlib.Core.Logic.{_⊎_}
 use mathlib.Core.Bool.{Bool}
 use mathlib.Core.List.{List}
 use lib.ListN.{length, getD}
@@ -42,9 +43,20 @@ grammarIn given = grammarOf (given .table)
 abbrev pub allowanceIn : Given → ℕ
 allowanceIn given = getD (given .numbers) 0 0
 
+-- 01: "line over 255 bytes"; "allowance 0 or over 1,000,000".
+abbrev pub longestLine : ℕ
+longestLine = 255
+
+abbrev pub mostAllowance : ℕ
+mostAllowance = 1000000
+
 -- 1 where answers are kept, else 0.
 abbrev pub keepsIn : Given → Bool
 keepsIn given = ltb 0 (getD (given .numbers) 1 0)
+
+-- Where the nodes start in the table.
+abbrev pub firstIn : Given → ℕ
+firstIn given = getD (given .numbers) 2 0
 
 -- The first word of the kept answers.
 abbrev pub baseIn : Given → ℕ
@@ -55,15 +67,30 @@ abbrev pub pairsIn : Given → List ℕ → ℕ
 pairsIn given line = nodesIn given * (length line + 1)
 
 -- 01: "2,048 + 4 x allowance + 2 x n x (L + 1)".
+abbrev pub workNeeded : (allowance nodes long : ℕ) → ℕ
+workNeeded allowance nodes long = 2048 + 4 * allowance + 2 * (nodes * (long + 1))
+
 abbrev pub roomIn : Given → List ℕ → ℕ
-roomIn given line = 2048 + 4 * allowanceIn given + 2 * pairsIn given line
+roomIn given line = workNeeded (allowanceIn given) (nodesIn given) (length line)
 
 -- What the check promises of the table, and how large the others are.
 pub record Fit (given : Given) (line : List ℕ) : Type 0 where
   pub accepted : Accepted (given .table)
-  pub first : getD (given .numbers) 2 0 ≡ nodeAt (rulesIn given) 0
-  pub short : length line ≤ 255
-  pub allowance : allowanceIn given ≤ 1000000
+  pub first : firstIn given ≡ nodeAt (rulesIn given) 0
+  pub short : length line ≤ longestLine
+  pub allowance : allowanceIn given ≤ mostAllowance
+
+-- Node i can be read: the table was accepted, has the node, and its nodes start where it says.
+abbrev pub HasNode : Given → ℕ → Type 0
+HasNode given i = Accepted (given .table) × ((i < nodesIn given) × (firstIn given ≡ nodeAt (rulesIn given) 0))
+
+-- Rule a is one of the sheet's.
+abbrev pub HasRule : Given → ℕ → Type 0
+HasRule given a = (a < 64) × (a < rulesIn given)
+
+-- Node i is a sequence or a choice.
+abbrev pub IsPair : Given → ℕ → Type 0
+IsPair given i = (kindIn given i ≡ 3) ⊎ (kindIn given i ≡ 4)
 
 -- Where a visit stands, in one number: its position, the live uses, and the open visits left.
 abbrev pub leftIn : ℕ → ℕ
@@ -74,6 +101,14 @@ liveIn spot = spot % 4294967296 / 1024
 
 abbrev pub posIn : ℕ → ℕ
 posIn spot = spot / 4294967296
+
+-- Where the reading begins: at position 0 with nothing live, and 512 visits may be open.
+abbrev pub beginning : ℕ
+beginning = 512
+
+-- The visit that stands there is open itself.
+abbrev pub IsOpen : ℕ → Type 0
+IsOpen spot = liveIn spot + leftIn spot ≤ 512
 
 -- The same at another position.
 pub record Moved (spot pos new : ℕ) : Type 0 where

@@ -4,12 +4,13 @@ use mathlib.Core.Path.{_≡_}
 use mathlib.Core.List.{List}
 use mathlib.Core.Logic.{_≢_}
 use lib.ListN.{length, getD}
-use mathlib.Core.Bool.{false}
-use Rattle.meaning.specs.Grammar.{Answer, fail, ok, Note, node}
-use Rattle.meaning.specs.Reading.{State, Run, effort, deep, done, Visit, apply, useRule, visited, visit}
+use mathlib.Core.Bool.{true, false}
+use Rattle.meaning.specs.Grammar.{Answer, fail, ok, fits, Note, node}
+use Rattle.meaning.specs.Reading.{State, Run, effort, deep, done, EFFORT, DEEP, Visit, after, byte, second, otherwise, denied, repeated, wrapped, apply, useRule, visited, visit}
 use Rattle.cells.specs.Cells.{treesAt}
-use Rattle.visits.specs.Given.{Given, nodesIn, keepsIn, allowanceIn, grammarIn, Fit, leftIn, liveIn}
-use Rattle.visits.specs.Words.{topIn, madeIn, Stands, Words, Same}
+use Rattle.visits.specs.Given.{Given, kindIn, aIn, bIn, nodesIn, keepsIn, allowanceIn, rootIn, grammarIn, Fit, leftIn, liveIn, posIn}
+pub use Rattle.visits.specs.Words.{FAILED, STOPPED}
+use Rattle.visits.specs.Words.{topIn, madeIn, placeIn, Stands, Words, Same}
 
 -- The reading that the functions follow: a visit with so many open visits left, a use of a rule, a use that becomes
 -- live, a node's application, and a visit that is counted and open.
@@ -28,12 +29,27 @@ applies given line left l i x s = apply line (reading given line left l) (uses g
 abbrev pub opens : Given → List ℕ → ℕ → List Note → Visit
 opens given line left = visited (grammarIn given) line (keepsIn given) (reading given line left)
 
--- The ends that are no position.
-abbrev pub FAILED : ℕ
-FAILED = 65535
+-- The steps that the functions take from a spot, on live uses and a state: a visit of a node, and what follows it for each kind of node.
+abbrev pub Step : Type 0
+Step = Given → List ℕ → ℕ → List Note → State → Run
 
-abbrev pub STOPPED : ℕ
-STOPPED = 65534
+abbrev pub here : (Given → List ℕ → ℕ → List Note → Visit) → ℕ → Step
+here v i given line spot l s = v given line (leftIn spot) l i (posIn spot) s
+
+abbrev pub sequencing : ℕ → ℕ → Step
+sequencing x y given line spot l s = after (here reading x given line spot l s) (second (reading given line (leftIn spot) l) y)
+
+abbrev pub choosing : ℕ → ℕ → Step
+choosing x y given line spot l s = after (here reading x given line spot l s) (otherwise (reading given line (leftIn spot) l) y (posIn spot))
+
+abbrev pub denying : ℕ → Step
+denying x given line spot l s = after (here reading x given line spot l s) (denied (posIn spot))
+
+abbrev pub repeating : ℕ → ℕ → Step
+repeating node x given line spot l s = after (here reading x given line spot l s) (repeated (reading given line (leftIn spot) l) node (posIn spot))
+
+abbrev pub rooting : ℕ → Step
+rooting rule given line spot l s = after (here reading (rootIn given rule) given line spot l s) (wrapped rule (posIn spot))
 
 -- Where an answer ends, as a result has it.
 unfoldable pub endOf : Answer → ℕ
@@ -46,6 +62,10 @@ endIn r = r % 4294967296
 
 abbrev pub listIn : ℕ → ℕ
 listIn r = r / 4294967296
+
+-- What range node i answers at x.
+abbrev pub Ranges : (given : Given) (line : List ℕ) (i x r : ℕ) → Type 0
+Ranges given line i x r = (endIn r ≡ endOf (byte x (fits line (aIn given i) (bIn given i) x))) × (listIn r ≡ 0)
 
 -- What live use i holds, as an answer: list 0 is a failure.
 pub record Holds (w : List ℕ) (i r : ℕ) : Type 0 where
@@ -73,11 +93,11 @@ pub record Ready (given : Given) (line w : List ℕ) (left live made top node po
   pub top-in : top ≤ made
 
 -- A refusal with its code, at a position.
-pub record Refused (given : Given) (r : Visited) (code place : ℕ) (s : State) : Type 0 where
+pub record Refused (allowance : ℕ) (r : Visited) (code place : ℕ) (s : State) : Type 0 where
   pub end : r .end ≡ STOPPED
   pub list : r .list ≡ code * 4096 + place
   pub small : place < 4096
-  pub left : s .left + r .made ≡ allowanceIn given
+  pub left : s .left + r .made ≡ allowance
 
 pub record Failed (given : Given) (line w : List ℕ) (live : ℕ) (l : List Note) (r : Visited) (s : State) : Type 0 where
   pub end : r .end ≡ FAILED
@@ -90,8 +110,8 @@ pub record Matched (given : Given) (line w : List ℕ) (live : ℕ) (l : List No
 
 -- A result says how a run ends.
 abbrev pub Says : (given : Given) (line w : List ℕ) (live : ℕ) (l : List Note) (r : Visited) → Run → Type 0
-Says given line w live l r (effort p s) = Refused given r 11 p s
-Says given line w live l r (deep p s) = Refused given r 12 p s
+Says given line w live l r (effort p s) = Refused (allowanceIn given) r EFFORT p s
+Says given line w live l r (deep p s) = Refused (allowanceIn given) r DEEP p s
 Says given line w live l r (done fail s) = Failed given line w live l r s
 Says given line w live l r (done (ok e ts) s) = (treesAt w (r .list) ≡ ts) × Matched given line w live l r e s
 
@@ -121,8 +141,25 @@ pub record Visits (given : Given) (line old new : List ℕ) (live made top : ℕ
 abbrev pub Starts : (given : Given) (line w : List ℕ) (spot node pos : ℕ) → Type 0
 Starts given line w spot node pos = Ready given line w (leftIn spot) (liveIn spot) (madeIn w) (topIn w) node pos
 
+abbrev pub StartsHere : (given : Given) (line w : List ℕ) (spot node : ℕ) → Type 0
+StartsHere given line w spot node = Starts given line w spot node (posIn spot)
+
+abbrev pub StartsUse : (given : Given) (line w : List ℕ) (spot rule : ℕ) → Type 0
+StartsUse given line w spot rule = StartsHere given line w spot (rootIn given rule)
+
 abbrev pub Ends : (given : Given) (line old new : List ℕ) (spot r : ℕ) (m : List Note → State → Run) → Type 0
 Ends given line old new spot r m = Applied given line old new (liveIn spot) (madeIn old) (topIn old) (after-visit r new) m
 
 abbrev pub EndsVisit : (given : Given) (line old new : List ℕ) (spot r : ℕ) (m : List Note → State → Run) → Type 0
 EndsVisit given line old new spot r m = Visits given line old new (liveIn spot) (madeIn old) (topIn old) (after-visit r new) m
+
+-- The same of a step at its spot.
+abbrev pub Does : (given : Given) (line old new : List ℕ) (spot r : ℕ) → Step → Type 0
+Does given line old new spot r m = Ends given line old new spot r (m given line spot)
+
+abbrev pub DoesVisit : (given : Given) (line old new : List ℕ) (spot r : ℕ) → Step → Type 0
+DoesVisit given line old new spot r m = EndsVisit given line old new spot r (m given line spot)
+
+-- A node that is applied here is no rule's but where answers are kept, and then none is kept for it.
+abbrev pub Unkept : (given : Given) (line w : List ℕ) (spot node : ℕ) → Type 0
+Unkept given line w spot node = (kindIn given node ≡ 2 → keepsIn given ≡ true) × (keepsIn given ≡ true → getD w (placeIn given line node (posIn spot)) 0 ≡ 0)

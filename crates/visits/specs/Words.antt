@@ -9,10 +9,17 @@ use mathlib.Core.Option.{Option, none, some}
 use lib.ListN.{length, getD, set}
 use lib.Seq.{sets}
 use Rattle.meaning.specs.Grammar.{Trees, no-trees, tree, Answer, fail, ok, Note, look}
-use Rattle.meaning.specs.Reading.{State}
+use Rattle.meaning.specs.Reading.{State, EFFORT, DEEP}
 use Rattle.cells.specs.Cells.{treesAt}
 use Rattle.cells.specs.Arena.{Arena}
-use Rattle.visits.specs.Given.{Given, nodesIn, keepsIn, baseIn, allowanceIn, pairsIn, roomIn, leftIn}
+use Rattle.visits.specs.Given.{Given, longestLine, mostAllowance, nodesIn, keepsIn, baseIn, allowanceIn, pairsIn, roomIn, leftIn}
+
+-- The ends that are no position.
+abbrev pub FAILED : ℕ
+FAILED = 65535
+
+abbrev pub STOPPED : ℕ
+STOPPED = 65534
 
 -- A pair of a rule and a position as one number.
 abbrev pub keyOf : ℕ → ℕ → ℕ
@@ -34,12 +41,18 @@ abbrev pub Lives : List ℕ → ℕ → List Note → Type 0
 Lives w live [] = live ≡ 0
 Lives w live (n ∷ l) = (k : ℕ) × (live ≡ k + 1) × Entry w k n × (look l (n .number) (n .position) ≡ none) × Lives w k l
 
--- Cells in use, and visits made.
+-- The words that hold how many cells are in use, and how many visits are made.
+abbrev pub topWord : ℕ
+topWord = 2042
+
+abbrev pub madeWord : ℕ
+madeWord = 2043
+
 abbrev pub topIn : List ℕ → ℕ
-topIn w = getD w 2042 0
+topIn w = getD w topWord 0
 
 abbrev pub madeIn : List ℕ → ℕ
-madeIn w = getD w 2043 0
+madeIn w = getD w madeWord 0
 
 -- Where the answer of a pair is kept.
 abbrev pub placeIn : Given → List ℕ → ℕ → ℕ → ℕ
@@ -75,11 +88,25 @@ pub record Same (given : Given) (line old new : List ℕ) (live top : ℕ) : Typ
   pub cells : (i : ℕ) → 2045 ≤ i → i < 2048 + 4 * top → getD new i 0 ≡ getD old i 0
   pub past : (i : ℕ) → roomIn given line ≤ i → getD new i 0 ≡ getD old i 0
 
+-- The pair of a rule and a position is not live.
+abbrev pub NotLive : List ℕ → (live key : ℕ) → Type 0
+NotLive w live key = (i : ℕ) → i < live → getD w (i * 3) 0 ≢ key
+
 -- A search for the live use with a key found entry r - 1, or none where r is 0.
 pub record Found (w : List ℕ) (live key r : ℕ) : Type 0 where
   pub within : r ≤ live
   pub is : 0 < r → getD w ((r - 1) * 3) 0 ≡ key
-  pub none : r ≡ 0 → (i : ℕ) → i < live → getD w (i * 3) 0 ≢ key
+  pub none : r ≡ 0 → NotLive w live key
+
+-- The cells are in order, and a list is one of theirs, or two are; there is room for one cell more.
+abbrev pub HasList : List ℕ → ℕ → Type 0
+HasList w list = Arena w (topIn w) × (list ≤ topIn w)
+
+abbrev pub HasLists : List ℕ → ℕ → ℕ → Type 0
+HasLists w left right = Arena w (topIn w) × ((left ≤ topIn w) × (right ≤ topIn w))
+
+abbrev pub HasCell : List ℕ → Type 0
+HasCell w = (2048 + 4 * topIn w + 3 < length w) × (topIn w < 1073741823)
 
 -- A list that stands for given trees was made with at most one cell, at top; beside it only the word of the cells in use changed.
 pub record Added (old new : List ℕ) (top list top′ : ℕ) (ts : Trees) : Type 0 where
@@ -89,26 +116,33 @@ pub record Added (old new : List ℕ) (top list top′ : ℕ) (ts : Trees) : Typ
   pub is : treesAt new list ≡ ts
   pub arena : Arena new top′
   pub long : length new ≡ length old
-  pub below : (i : ℕ) → i < 2048 + 4 * top → i ≢ 2042 → getD new i 0 ≡ getD old i 0
+  pub below : (i : ℕ) → i < 2048 + 4 * top → i ≢ topWord → getD new i 0 ≡ getD old i 0
   pub above : (i : ℕ) → 2048 + 4 * top′ ≤ i → getD new i 0 ≡ getD old i 0
+
+abbrev pub Adds : (old new : List ℕ) (list : ℕ) → Trees → Type 0
+Adds old new list ts = Added old new (topIn old) list (topIn new) ts
 
 -- A visit from the words old is refused, for effort or for depth, by its code; else it is counted.
 abbrev pub Entered : (given : Given) (old new : List ℕ) (spot code : ℕ) → Type 0
 Entered given old new spot code =
-    ((allowanceIn given ≤ madeIn old) × (code ≡ 11) × (new ≡ old))
-    ⊎ ((madeIn old < allowanceIn given) × (leftIn spot ≡ 0) × (code ≡ 12) × (new ≡ old))
-    ⊎ ((madeIn old < allowanceIn given) × (leftIn spot ≢ 0) × (code ≡ 0) × (new ≡ set old 2043 (madeIn old + 1)))
+    ((allowanceIn given ≤ madeIn old) × (code ≡ EFFORT) × (new ≡ old))
+    ⊎ ((madeIn old < allowanceIn given) × (leftIn spot ≡ 0) × (code ≡ DEEP) × (new ≡ old))
+    ⊎ ((madeIn old < allowanceIn given) × (leftIn spot ≢ 0) × (code ≡ 0) × (new ≡ set old madeWord (madeIn old + 1)))
+
+-- Node i and position x are a pair for which an answer may be kept.
+abbrev pub HasPair : Given → List ℕ → (i x : ℕ) → Type 0
+HasPair given line i x = (length line ≤ longestLine) × ((allowanceIn given ≤ mostAllowance) × ((i < 512) × (x ≤ length line)))
 
 -- There is room for the kept answer of a pair, and its place is a small number.
 pub record Roomy (given : Given) (line w : List ℕ) (i x : ℕ) : Type 0 where
-  pub short : length line ≤ 255
-  pub allowance : allowanceIn given ≤ 1000000
+  pub short : length line ≤ longestLine
+  pub allowance : allowanceIn given ≤ mostAllowance
   pub node-in : i < 512
   pub pos-in : x ≤ length line
   pub room : placeIn given line i x + 1 < length w
 
 -- What is kept once a pair is finished: a failure, or the end and the list of a match.
 pub record Kept (given : Given) (line old new : List ℕ) (i x end list : ℕ) : Type 0 where
-  pub stopped : end ≡ 65534 → new ≡ old
-  pub failed : end ≡ 65535 → new ≡ sets old (placeIn given line i x) (1 ∷ 0 ∷ [])
-  pub matched : end < 65534 → new ≡ sets old (placeIn given line i x) ((end + 2) ∷ list ∷ [])
+  pub stopped : end ≡ STOPPED → new ≡ old
+  pub failed : end ≡ FAILED → new ≡ sets old (placeIn given line i x) (1 ∷ 0 ∷ [])
+  pub matched : end < STOPPED → new ≡ sets old (placeIn given line i x) ((end + 2) ∷ list ∷ [])

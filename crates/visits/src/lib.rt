@@ -16,15 +16,14 @@ ghost use mathlib.Core.List.{List, [], _∷_};
 ghost use Prim.Native.Nat.{ℕ, _+_, _*_, _/_, _%_, _<_, _≤_};
 ghost use lib.ListN.{length, getD};
 ghost use lib.Seq.{sets};
-ghost use Rattle.meaning.specs.Grammar.{no-trees, tree, _⋈_, fits, Note};
-ghost use Rattle.meaning.specs.Reading.{State, byte, after, second, otherwise, denied, repeated, wrapped};
+ghost use Rattle.meaning.specs.Grammar.{no-trees, tree, _⋈_, fits};
+ghost use Rattle.meaning.specs.Reading.{byte};
 ghost use Rattle.sheet.specs.Table.{nodesOf, rulesOf, rootOf, nodeAt, kindOf, aOf, bOf};
 ghost use Rattle.sheet.specs.Check.{Accepted};
 ghost use Rattle.cells.specs.Cells.{treesAt};
-ghost use Rattle.cells.specs.Arena.{Arena};
-ghost use Rattle.visits.specs.Given.{lent, kindIn, nodesIn, rulesIn, rootIn, keepsIn, leftIn, liveIn, posIn, Moved};
-ghost use Rattle.visits.specs.Words.{keyOf, topIn, madeIn, placeIn, Added, Entered, Roomy, Kept, Found};
-ghost use Rattle.visits.specs.Says.{reading, uses, grows, applies, opens, endOf, endIn, listIn, Holds, Starts, Ends, EndsVisit};
+ghost use Rattle.visits.specs.Given.{lent, longestLine, mostAllowance, allowanceIn, nodesIn, rulesIn, keepsIn, HasNode, HasRule, IsPair, IsOpen, beginning, leftIn, liveIn, posIn, Moved};
+ghost use Rattle.visits.specs.Words.{FAILED, keyOf, topWord, topIn, madeIn, placeIn, NotLive, HasList, HasLists, HasCell, Adds, Entered, HasPair, Roomy, Kept, Found};
+ghost use Rattle.visits.specs.Says.{reading, uses, grows, applies, opens, here, sequencing, choosing, denying, repeating, rooting, endOf, endIn, listIn, Holds, Ranges, StartsHere, StartsUse, Unkept, Does, DoesVisit};
 
 // The ends that are no position.
 pub const FAILED: u32 = 65535;
@@ -36,6 +35,37 @@ const EFFORT: u32 = 11;
 
 const DEEP: u32 = 12;
 
+// A refusal is one number: its code times this, and its place.
+pub const PLACES: u32 = 4096;
+
+// Which of the numbers given is which.
+const ALLOWANCE: usize = 0;
+
+const KEEPS: usize = 1;
+
+const FIRST_NODE: usize = 2;
+
+// The working numbers that hold how many cells are in use and how many visits are made, and the first of the cells.
+const TOP: usize = 2042;
+
+const MADE: usize = 2043;
+
+const CELLS: usize = 2048;
+
+// What stands in the upper half of an answer, or of where a visit stands, is so many times as much.
+const UPPER: u64 = 4294967296;
+
+// What one open visit takes from where a visit stands, and one live use adds to it.
+const OPEN: u64 = 1;
+
+const LIVE: u64 = 1024;
+
+// Where the reading begins: at position 0 with nothing live, and 512 visits may be open.
+const BEGINNING: u64 = 512;
+
+// A pair of a rule and a position is one number: the position times this, and the rule.
+const RULES: u32 = 64;
+
 fn wide(x: u8) -> u32
     ensures { λ r. ⌜ (r ≡ x) × (r < 256) ⌝ }
 {
@@ -46,40 +76,40 @@ fn wide(x: u8) -> u32
 fn answer(end: u32, list: u32) -> u64
     ensures { λ r. ⌜ (endIn r ≡ end) × (listIn r ≡ list) ⌝ }
 {
-    list as u64 * 4294967296 + end as u64
+    list as u64 * UPPER + end as u64
 }
 
 pub fn end_of(answer: u64) -> u32
     ensures { λ r. ⌜ r ≡ endIn answer ⌝ }
 {
-    (answer % 4294967296) as u32
+    (answer % UPPER) as u32
 }
 
 pub fn list_of(answer: u64) -> u32
     ensures { λ r. ⌜ r ≡ listIn answer ⌝ }
 {
-    (answer / 4294967296) as u32
+    (answer / UPPER) as u32
 }
 
 fn kind_of(given: &[u32; 3], table: &[u8], node: u32) -> u32
-    requires { ⌜ Accepted (now table) × ((node < nodesOf (now table)) × (getD (now given) 2 0 ≡ nodeAt (rulesOf (now table)) 0)) ⌝ }
+    requires { ⌜ HasNode (lent (now table) (now given)) node ⌝ }
     ensures { λ r. ⌜ (r ≡ kindOf (now (table .entry)) node) × (r < 7) ⌝ }
 {
-    sheet::kind_from(table, given[2] as usize, node as usize) as u32
+    sheet::kind_from(table, given[FIRST_NODE] as usize, node as usize) as u32
 }
 
 fn a_of(given: &[u32; 3], table: &[u8], node: u32) -> u32
-    requires { ⌜ Accepted (now table) × ((node < nodesOf (now table)) × (getD (now given) 2 0 ≡ nodeAt (rulesOf (now table)) 0)) ⌝ }
+    requires { ⌜ HasNode (lent (now table) (now given)) node ⌝ }
     ensures { λ r. ⌜ (r ≡ aOf (now (table .entry)) node) × (r < 512) ⌝ }
 {
-    sheet::field_a_from(table, given[2] as usize, node as usize) as u32
+    sheet::field_a_from(table, given[FIRST_NODE] as usize, node as usize) as u32
 }
 
 fn b_of(given: &[u32; 3], table: &[u8], node: u32) -> u32
-    requires { ⌜ Accepted (now table) × ((node < nodesOf (now table)) × (getD (now given) 2 0 ≡ nodeAt (rulesOf (now table)) 0)) ⌝ }
+    requires { ⌜ HasNode (lent (now table) (now given)) node ⌝ }
     ensures { λ r. ⌜ (r ≡ bOf (now (table .entry)) node) × (r < 512) ⌝ }
 {
-    sheet::field_b_from(table, given[2] as usize, node as usize) as u32
+    sheet::field_b_from(table, given[FIRST_NODE] as usize, node as usize) as u32
 }
 
 fn root_of(table: &[u8], rule: u32) -> u32
@@ -93,31 +123,31 @@ fn root_of(table: &[u8], rule: u32) -> u32
 fn left_of(spot: u64) -> u32
     ensures { λ r. ⌜ r ≡ leftIn spot ⌝ }
 {
-    (spot % 1024) as u32
+    (spot % LIVE) as u32
 }
 
 fn live_of(spot: u64) -> u32
     ensures { λ r. ⌜ r ≡ liveIn spot ⌝ }
 {
-    (spot % 4294967296 / 1024) as u32
+    (spot % UPPER / LIVE) as u32
 }
 
 fn pos_of(spot: u64) -> u32
     ensures { λ r. ⌜ r ≡ posIn spot ⌝ }
 {
-    (spot / 4294967296) as u32
+    (spot / UPPER) as u32
 }
 
 // The same at another position.
 fn moved(spot: u64, pos: u32) -> u64
     ensures { λ r. ⌜ Moved spot pos r ⌝ }
 {
-    pos as u64 * 4294967296 + spot % 4294967296
+    pos as u64 * UPPER + spot % UPPER
 }
 
 // Where a byte in a range ends at a position, or FAILED.
 fn range_end(line: &[u8], lowest: u32, highest: u32, pos: u32) -> u32
-    requires { ⌜ (pos ≤ length (now line)) × (length (now line) ≤ 255) ⌝ }
+    requires { ⌜ (pos ≤ length (now line)) × (length (now line) ≤ longestLine) ⌝ }
     ensures { λ r. ⌜ r ≡ endOf (byte pos (fits (now (line .entry)) lowest highest pos)) ⌝ }
 {
     let at = pos as usize;
@@ -132,24 +162,38 @@ fn range_end(line: &[u8], lowest: u32, highest: u32, pos: u32) -> u32
     FAILED
 }
 
+// A range: one byte, and no trees.
+fn visit_range(given: &[u32; 3], table: &[u8], line: &[u8], pos: u32, node: u32) -> u64
+    requires node { ⌜ HasNode (lent (now table) (now given)) node ⌝ }
+    requires inside { ⌜ (pos ≤ length (now line)) × (length (now line) ≤ longestLine) ⌝ }
+    ensures { λ r. ⌜ Ranges (lent (now (table .entry)) (now (given .entry))) (now (line .entry)) node pos r ⌝ }
+{
+    let end = range_end(
+        line,
+        a_of(given, table, node),
+        b_of(given, table, node),
+        pos,
+    );
+    answer(end, 0)
+}
+
 // Makes ready for the first visit: no cell is in use, no visit is made.
 pub fn no_visits(work: &mut [u32])
     requires { ⌜ 2048 ≤ length (now work) ⌝ }
-    ensures { λ _. ⌜ now (work .exit) ≡ sets (now (work .entry)) 2042 (0 ∷ 0 ∷ []) ⌝ }
+    ensures { λ _. ⌜ now (work .exit) ≡ sets (now (work .entry)) topWord (0 ∷ 0 ∷ []) ⌝ }
 {
-    work[2042] = 0;
-    work[2043] = 0;
+    work[TOP] = 0;
+    work[MADE] = 0;
 }
 
-// How many visits are made.
 pub fn visits_made(work: &[u32]) -> u32
     requires { ⌜ 2048 ≤ length (now work) ⌝ }
     ensures { λ r. ⌜ r ≡ madeIn (now (work .entry)) ⌝ }
 {
-    work[2043]
+    work[MADE]
 }
 
-// Writes a live use.
+// A live use is three words: its pair, and the end and the list of what it holds.
 fn put_use(work: &mut [u32], live: u32, key: u32, end: u32, list: u32)
     requires { ⌜ (live * 3 + 2 < length (now work)) × (live ≤ 512) ⌝ }
     ensures { λ _. ⌜ now (work .exit) ≡ sets (now (work .entry)) (live * 3) (key ∷ end ∷ list ∷ []) ⌝ }
@@ -176,7 +220,7 @@ fn find_use(work: &mut &mut [u32], live: u32, key: u32) -> u32
     0
 }
 
-// The answer that a live use holds.
+// What a live use holds, as an answer: list 0 is a failure.
 fn held_by(work: &mut &mut [u32], live: u32) -> u64
     requires { ⌜ (live * 3 + 2 < length (now (now work))) × (live ≤ 512) ⌝ }
     ensures { λ r. ⌜ Holds (now (now (work .entry))) live r × (now (work .exit) ≡ now (work .entry)) ⌝ }
@@ -190,38 +234,38 @@ fn held_by(work: &mut &mut [u32], live: u32) -> u64
     answer(end, list)
 }
 
-// Joins two lists of trees, behind an end.
+// The answer that ends there with two lists of trees joined.
 fn joined(work: &mut [u32], end: u32, left: u32, right: u32) -> u64
-    requires arena { ⌜ Arena (now work) (topIn (now work)) × ((left ≤ topIn (now work)) × (right ≤ topIn (now work))) ⌝ }
-    requires room { ⌜ (2048 + 4 * topIn (now work) + 3 < length (now work)) × (topIn (now work) < 1073741823) ⌝ }
-    ensures { λ r. ⌜ (endIn r ≡ end) × Added (now (work .entry)) (now (work .exit)) (topIn (now (work .entry))) (listIn r) (topIn (now (work .exit))) (treesAt (now (work .entry)) left ⋈ treesAt (now (work .entry)) right) ⌝ }
+    requires lists { ⌜ HasLists (now work) left right ⌝ }
+    requires cell { ⌜ HasCell (now work) ⌝ }
+    ensures { λ r. ⌜ (endIn r ≡ end) × Adds (now (work .entry)) (now (work .exit)) (listIn r) (treesAt (now (work .entry)) left ⋈ treesAt (now (work .entry)) right) ⌝ }
 {
-    let top = work[2042];
+    let top = work[TOP];
     let held = cells::join(work, top, left, right);
-    work[2042] = held.top;
+    work[TOP] = held.top;
     answer(end, held.list)
 }
 
-// Makes one tree of a rule over its children, and gives its list.
+// The list of one tree: a rule, where it starts and ends, its children.
 fn planted(work: &mut [u32], rule: u32, start: u32, end: u32, children: u32) -> u32
-    requires arena { ⌜ Arena (now work) (topIn (now work)) × (children ≤ topIn (now work)) ⌝ }
-    requires room { ⌜ (2048 + 4 * topIn (now work) + 3 < length (now work)) × (topIn (now work) < 1073741823) ⌝ }
+    requires lists { ⌜ HasList (now work) children ⌝ }
+    requires cell { ⌜ HasCell (now work) ⌝ }
     requires small { ⌜ (rule < 64) × ((start < 4096) × (end < 4096)) ⌝ }
-    ensures added { λ r. ⌜ Added (now (work .entry)) (now (work .exit)) (topIn (now (work .entry))) r (topIn (now (work .exit))) (tree rule start end (treesAt (now (work .entry)) children) no-trees) ⌝ }
+    ensures added { λ r. ⌜ Adds (now (work .entry)) (now (work .exit)) r (tree rule start end (treesAt (now (work .entry)) children) no-trees) ⌝ }
     ensures list { λ r. ⌜ (r ≡ topIn (now (work .entry)) + 1) × (topIn (now (work .exit)) ≡ r) ⌝ }
 {
-    let top = work[2042];
+    let top = work[TOP];
     cells::put_tree(work, top, rule, start, end, children);
-    work[2042] = top + 1;
+    work[TOP] = top + 1;
     top + 1
 }
 
 // Where the answer of a pair is kept.
 fn kept_at(given: &[u32; 3], line: &[u8], node: u32, pos: u32) -> usize
-    requires { ⌜ (length (now line) ≤ 255) × ((getD (now given) 0 0 ≤ 1000000) × ((node < 512) × (pos ≤ length (now line)))) ⌝ }
+    requires { ⌜ HasPair (lent [] (now given)) (now line) node pos ⌝ }
     ensures { λ r. ⌜ r ≡ placeIn (lent [] (now (given .entry))) (now (line .entry)) node pos ⌝ }
 {
-    2048 + 4 * given[0] as usize + (node as usize * (line.len() + 1) + pos as usize) * 2
+    CELLS + 4 * given[ALLOWANCE] as usize + (node as usize * (line.len() + 1) + pos as usize) * 2
 }
 
 // The word that is kept for a pair, 0 where nothing is.
@@ -233,9 +277,9 @@ fn kept_word(given: &[u32; 3], line: &[u8], work: &mut &mut [u32], node: u32, po
     work[at]
 }
 
-// Keeps the answer of a finished pair.
+// Keeps the answer of a finished pair; one that was refused has none.
 fn keep(given: &[u32; 3], line: &[u8], work: &mut [u32], node: u32, pos: u32, end: u32, list: u32)
-    requires { ⌜ Roomy (lent [] (now given)) (now line) (now work) node pos × (end ≤ 65535) ⌝ }
+    requires { ⌜ Roomy (lent [] (now given)) (now line) (now work) node pos × (end ≤ FAILED) ⌝ }
     ensures { λ _. ⌜ Kept (lent [] (now (given .entry))) (now (line .entry)) (now (work .entry)) (now (work .exit)) node pos end list ⌝ }
 {
     if end == STOPPED {
@@ -249,7 +293,6 @@ fn keep(given: &[u32; 3], line: &[u8], work: &mut [u32], node: u32, pos: u32, en
     put_kept(work, at, end + 2, list);
 }
 
-// Keeps two words.
 fn put_kept(work: &mut [u32], at: usize, word: u32, list: u32)
     requires { ⌜ at + 1 < length (now work) ⌝ }
     ensures { λ _. ⌜ now (work .exit) ≡ sets (now (work .entry)) at (word ∷ list ∷ []) ⌝ }
@@ -260,12 +303,12 @@ fn put_kept(work: &mut [u32], at: usize, word: u32, list: u32)
 
 // Enters a visit: the code by which it is refused, EFFORT before DEEP, or 0, and then it is counted.
 fn enter(given: &[u32; 3], work: &mut &mut [u32], spot: u64) -> u32
-    requires { ⌜ (2048 ≤ length (now (now work))) × (getD (now given) 0 0 ≤ 1000000) ⌝ }
+    requires { ⌜ (2048 ≤ length (now (now work))) × (allowanceIn (lent [] (now given)) ≤ mostAllowance) ⌝ }
     ensures says { λ r. ⌜ Entered (lent [] (now (given .entry))) (now (now (work .entry))) (now (now (work .exit))) spot r ⌝ }
     ensures lent { λ _. ⌜ (now (work .exit)) .name ≡ (now (work .entry)) .name ⌝ }
 {
-    let allowance = given[0];
-    let made = work[2043];
+    let allowance = given[ALLOWANCE];
+    let made = work[MADE];
     let left = left_of(spot);
     if allowance <= made {
         return EFFORT;
@@ -273,7 +316,7 @@ fn enter(given: &[u32; 3], work: &mut &mut [u32], spot: u64) -> u32
     if left == 0 {
         return DEEP;
     }
-    work[2043] = made + 1;
+    work[MADE] = made + 1;
     0
 }
 
@@ -286,9 +329,9 @@ fn visit_sequence(
     x: u32,
     y: u32,
 ) -> u64
-    requires ready { ⌜ Starts (lent (now (now table)) (now given)) (now (now line)) (now (now work)) spot x (posIn spot) ⌝ }
-    requires open { ⌜ (liveIn spot + leftIn spot ≤ 512) × (y < nodesIn (lent (now (now table)) (now given))) ⌝ }
-    ensures says { λ r. ⌜ Ends (lent (now (now (table .entry))) (now (given .entry))) (now (now (line .entry))) (now (now (work .entry))) (now (now (work .exit))) spot r (λ (l : List Note) (s : State). after (reading (lent (now (now (table .entry))) (now (given .entry))) (now (now (line .entry))) (leftIn spot) l x (posIn spot) s) (second (reading (lent (now (now (table .entry))) (now (given .entry))) (now (now (line .entry))) (leftIn spot) l) y)) ⌝ }
+    requires ready { ⌜ StartsHere (lent (now (now table)) (now given)) (now (now line)) (now (now work)) spot x ⌝ }
+    requires open { ⌜ IsOpen spot × (y < nodesIn (lent (now (now table)) (now given))) ⌝ }
+    ensures says { λ r. ⌜ Does (lent (now (now (table .entry))) (now (given .entry))) (now (now (line .entry))) (now (now (work .entry))) (now (now (work .exit))) spot r (sequencing x y) ⌝ }
     ensures lent { λ _. ⌜ (now (work .exit)) .name ≡ (now (work .entry)) .name ⌝ }
 {
     let a = visit(given, table, line, work, spot, x);
@@ -313,9 +356,9 @@ fn visit_choice(
     x: u32,
     y: u32,
 ) -> u64
-    requires ready { ⌜ Starts (lent (now (now table)) (now given)) (now (now line)) (now (now work)) spot x (posIn spot) ⌝ }
-    requires open { ⌜ (liveIn spot + leftIn spot ≤ 512) × (y < nodesIn (lent (now (now table)) (now given))) ⌝ }
-    ensures says { λ r. ⌜ Ends (lent (now (now (table .entry))) (now (given .entry))) (now (now (line .entry))) (now (now (work .entry))) (now (now (work .exit))) spot r (λ (l : List Note) (s : State). after (reading (lent (now (now (table .entry))) (now (given .entry))) (now (now (line .entry))) (leftIn spot) l x (posIn spot) s) (otherwise (reading (lent (now (now (table .entry))) (now (given .entry))) (now (now (line .entry))) (leftIn spot) l) y (posIn spot))) ⌝ }
+    requires ready { ⌜ StartsHere (lent (now (now table)) (now given)) (now (now line)) (now (now work)) spot x ⌝ }
+    requires open { ⌜ IsOpen spot × (y < nodesIn (lent (now (now table)) (now given))) ⌝ }
+    ensures says { λ r. ⌜ Does (lent (now (now (table .entry))) (now (given .entry))) (now (now (line .entry))) (now (now (work .entry))) (now (now (work .exit))) spot r (choosing x y) ⌝ }
     ensures lent { λ _. ⌜ (now (work .exit)) .name ≡ (now (work .entry)) .name ⌝ }
 {
     let a = visit(given, table, line, work, spot, x);
@@ -334,9 +377,9 @@ fn visit_not(
     spot: u64,
     x: u32,
 ) -> u64
-    requires ready { ⌜ Starts (lent (now (now table)) (now given)) (now (now line)) (now (now work)) spot x (posIn spot) ⌝ }
-    requires open { ⌜ liveIn spot + leftIn spot ≤ 512 ⌝ }
-    ensures says { λ r. ⌜ Ends (lent (now (now (table .entry))) (now (given .entry))) (now (now (line .entry))) (now (now (work .entry))) (now (now (work .exit))) spot r (λ (l : List Note) (s : State). after (reading (lent (now (now (table .entry))) (now (given .entry))) (now (now (line .entry))) (leftIn spot) l x (posIn spot) s) (denied (posIn spot))) ⌝ }
+    requires ready { ⌜ StartsHere (lent (now (now table)) (now given)) (now (now line)) (now (now work)) spot x ⌝ }
+    requires open { ⌜ IsOpen spot ⌝ }
+    ensures says { λ r. ⌜ Does (lent (now (now (table .entry))) (now (given .entry))) (now (now (line .entry))) (now (now (work .entry))) (now (now (work .exit))) spot r (denying x) ⌝ }
     ensures lent { λ _. ⌜ (now (work .exit)) .name ≡ (now (work .entry)) .name ⌝ }
 {
     let a = visit(given, table, line, work, spot, x);
@@ -360,9 +403,9 @@ fn visit_repetition(
     node: u32,
     x: u32,
 ) -> u64
-    requires ready { ⌜ Starts (lent (now (now table)) (now given)) (now (now line)) (now (now work)) spot x (posIn spot) ⌝ }
-    requires open { ⌜ (liveIn spot + leftIn spot ≤ 512) × (node < nodesIn (lent (now (now table)) (now given))) ⌝ }
-    ensures says { λ r. ⌜ Ends (lent (now (now (table .entry))) (now (given .entry))) (now (now (line .entry))) (now (now (work .entry))) (now (now (work .exit))) spot r (λ (l : List Note) (s : State). after (reading (lent (now (now (table .entry))) (now (given .entry))) (now (now (line .entry))) (leftIn spot) l x (posIn spot) s) (repeated (reading (lent (now (now (table .entry))) (now (given .entry))) (now (now (line .entry))) (leftIn spot) l) node (posIn spot))) ⌝ }
+    requires ready { ⌜ StartsHere (lent (now (now table)) (now given)) (now (now line)) (now (now work)) spot x ⌝ }
+    requires open { ⌜ IsOpen spot × (node < nodesIn (lent (now (now table)) (now given))) ⌝ }
+    ensures says { λ r. ⌜ Does (lent (now (now (table .entry))) (now (given .entry))) (now (now (line .entry))) (now (now (work .entry))) (now (now (work .exit))) spot r (repeating node x) ⌝ }
     ensures lent { λ _. ⌜ (now (work .exit)) .name ≡ (now (work .entry)) .name ⌝ }
 {
     let pos = pos_of(spot);
@@ -394,9 +437,9 @@ fn use_free(
     spot: u64,
     rule: u32,
 ) -> u64
-    requires ready { ⌜ Starts (lent (now (now table)) (now given)) (now (now line)) (now (now work)) spot (rootIn (lent (now (now table)) (now given)) rule) (posIn spot) ⌝ }
-    requires open { ⌜ (liveIn spot + leftIn spot ≤ 512) × ((rule < 64) × (rule < rulesIn (lent (now (now table)) (now given)))) ⌝ }
-    ensures says { λ r. ⌜ Ends (lent (now (now (table .entry))) (now (given .entry))) (now (now (line .entry))) (now (now (work .entry))) (now (now (work .exit))) spot r (λ (l : List Note) (s : State). after (reading (lent (now (now (table .entry))) (now (given .entry))) (now (now (line .entry))) (leftIn spot) l (rootIn (lent (now (now (table .entry))) (now (given .entry))) rule) (posIn spot) s) (wrapped rule (posIn spot))) ⌝ }
+    requires ready { ⌜ StartsUse (lent (now (now table)) (now given)) (now (now line)) (now (now work)) spot rule ⌝ }
+    requires open { ⌜ IsOpen spot × HasRule (lent (now (now table)) (now given)) rule ⌝ }
+    ensures says { λ r. ⌜ Does (lent (now (now (table .entry))) (now (given .entry))) (now (now (line .entry))) (now (now (work .entry))) (now (now (work .exit))) spot r (rooting rule) ⌝ }
     ensures lent { λ _. ⌜ (now (work .exit)) .name ≡ (now (work .entry)) .name ⌝ }
 {
     let pos = pos_of(spot);
@@ -419,18 +462,18 @@ fn use_live(
     spot: u64,
     rule: u32,
 ) -> u64
-    requires ready { ⌜ Starts (lent (now (now table)) (now given)) (now (now line)) (now (now work)) spot (rootIn (lent (now (now table)) (now given)) rule) (posIn spot) ⌝ }
-    requires open { ⌜ (liveIn spot + leftIn spot ≤ 512) × ((rule < 64) × (rule < rulesIn (lent (now (now table)) (now given)))) ⌝ }
-    requires fresh { ⌜ ((i : ℕ) → i < liveIn spot → getD (now (now work)) (i * 3) 0 ≢ keyOf rule (posIn spot)) ⌝ }
-    ensures says { λ r. ⌜ Ends (lent (now (now (table .entry))) (now (given .entry))) (now (now (line .entry))) (now (now (work .entry))) (now (now (work .exit))) spot r (λ (l : List Note) (s : State). grows (lent (now (now (table .entry))) (now (given .entry))) (now (now (line .entry))) (leftIn spot) l rule (posIn spot) s) ⌝ }
+    requires ready { ⌜ StartsUse (lent (now (now table)) (now given)) (now (now line)) (now (now work)) spot rule ⌝ }
+    requires open { ⌜ IsOpen spot × HasRule (lent (now (now table)) (now given)) rule ⌝ }
+    requires fresh { ⌜ NotLive (now (now work)) (liveIn spot) (keyOf rule (posIn spot)) ⌝ }
+    ensures says { λ r. ⌜ Does (lent (now (now (table .entry))) (now (given .entry))) (now (now (line .entry))) (now (now (work .entry))) (now (now (work .exit))) spot r (here grows rule) ⌝ }
     ensures lent { λ _. ⌜ (now (work .exit)) .name ≡ (now (work .entry)) .name ⌝ }
 {
     let root = root_of(*table, rule);
     let pos = pos_of(spot);
-    let key = pos * 64 + rule;
+    let key = pos * RULES + rule;
     let live = live_of(spot);
     put_use(*work, live, key, 0, 0);
-    let first = visit(given, table, line, work, spot + 1024, root);
+    let first = visit(given, table, line, work, spot + LIVE, root);
     let reached = end_of(first);
     if STOPPED <= reached {
         return first;
@@ -439,7 +482,7 @@ fn use_live(
     let mut held = planted(*work, rule, pos, reached, list_of(first));
     let last = loop {
         put_use(*work, live, key, end, held);
-        let next = visit(given, table, line, work, spot + 1024, root);
+        let next = visit(given, table, line, work, spot + LIVE, root);
         let reached = end_of(next);
         if reached == STOPPED {
             break next;
@@ -465,13 +508,13 @@ fn use_rule(
     spot: u64,
     rule: u32,
 ) -> u64
-    requires ready { ⌜ Starts (lent (now (now table)) (now given)) (now (now line)) (now (now work)) spot (rootIn (lent (now (now table)) (now given)) rule) (posIn spot) ⌝ }
-    requires open { ⌜ (liveIn spot + leftIn spot ≤ 512) × (rule < rulesIn (lent (now (now table)) (now given))) ⌝ }
+    requires ready { ⌜ StartsUse (lent (now (now table)) (now given)) (now (now line)) (now (now work)) spot rule ⌝ }
+    requires open { ⌜ IsOpen spot × (rule < rulesIn (lent (now (now table)) (now given))) ⌝ }
     requires plain { ⌜ keepsIn (lent (now (now table)) (now given)) ≡ false ⌝ }
-    ensures says { λ r. ⌜ Ends (lent (now (now (table .entry))) (now (given .entry))) (now (now (line .entry))) (now (now (work .entry))) (now (now (work .exit))) spot r (λ (l : List Note) (s : State). uses (lent (now (now (table .entry))) (now (given .entry))) (now (now (line .entry))) (leftIn spot) l rule (posIn spot) s) ⌝ }
+    ensures says { λ r. ⌜ Does (lent (now (now (table .entry))) (now (given .entry))) (now (now (line .entry))) (now (now (work .entry))) (now (now (work .exit))) spot r (here uses rule) ⌝ }
     ensures lent { λ _. ⌜ (now (work .exit)) .name ≡ (now (work .entry)) .name ⌝ }
 {
-    let found = find_use(work, live_of(spot), pos_of(spot) * 64 + rule);
+    let found = find_use(work, live_of(spot), pos_of(spot) * RULES + rule);
     if found != 0 {
         return held_by(work, found - 1);
     }
@@ -487,9 +530,9 @@ fn visit_pair(
     spot: u64,
     node: u32,
 ) -> u64
-    requires ready { ⌜ Starts (lent (now (now table)) (now given)) (now (now line)) (now (now work)) spot node (posIn spot) ⌝ }
-    requires open { ⌜ (liveIn spot + leftIn spot ≤ 512) × ((kindIn (lent (now (now table)) (now given)) node ≡ 3) ⊎ (kindIn (lent (now (now table)) (now given)) node ≡ 4)) ⌝ }
-    ensures says { λ r. ⌜ Ends (lent (now (now (table .entry))) (now (given .entry))) (now (now (line .entry))) (now (now (work .entry))) (now (now (work .exit))) spot r (λ (l : List Note) (s : State). applies (lent (now (now (table .entry))) (now (given .entry))) (now (now (line .entry))) (leftIn spot) l node (posIn spot) s) ⌝ }
+    requires ready { ⌜ StartsHere (lent (now (now table)) (now given)) (now (now line)) (now (now work)) spot node ⌝ }
+    requires open { ⌜ IsOpen spot × IsPair (lent (now (now table)) (now given)) node ⌝ }
+    ensures says { λ r. ⌜ Does (lent (now (now (table .entry))) (now (given .entry))) (now (now (line .entry))) (now (now (work .entry))) (now (now (work .exit))) spot r (here applies node) ⌝ }
     ensures lent { λ _. ⌜ (now (work .exit)) .name ≡ (now (work .entry)) .name ⌝ }
 {
     let x = a_of(given, *table, node);
@@ -510,23 +553,15 @@ fn apply(
     spot: u64,
     node: u32,
 ) -> u64
-    requires ready { ⌜ Starts (lent (now (now table)) (now given)) (now (now line)) (now (now work)) spot node (posIn spot) ⌝ }
-    requires open { ⌜ liveIn spot + leftIn spot ≤ 512 ⌝ }
-    requires kept { ⌜ (kindIn (lent (now (now table)) (now given)) node ≡ 2 → keepsIn (lent (now (now table)) (now given)) ≡ true) × (keepsIn (lent (now (now table)) (now given)) ≡ true → getD (now (now work)) (placeIn (lent (now (now table)) (now given)) (now (now line)) node (posIn spot)) 0 ≡ 0) ⌝ }
-    ensures says { λ r. ⌜ Ends (lent (now (now (table .entry))) (now (given .entry))) (now (now (line .entry))) (now (now (work .entry))) (now (now (work .exit))) spot r (λ (l : List Note) (s : State). opens (lent (now (now (table .entry))) (now (given .entry))) (now (now (line .entry))) (leftIn spot) l node (posIn spot) s) ⌝ }
+    requires ready { ⌜ StartsHere (lent (now (now table)) (now given)) (now (now line)) (now (now work)) spot node ⌝ }
+    requires open { ⌜ IsOpen spot ⌝ }
+    requires kept { ⌜ Unkept (lent (now (now table)) (now given)) (now (now line)) (now (now work)) spot node ⌝ }
+    ensures says { λ r. ⌜ Does (lent (now (now (table .entry))) (now (given .entry))) (now (now (line .entry))) (now (now (work .entry))) (now (now (work .exit))) spot r (here opens node) ⌝ }
     ensures lent { λ _. ⌜ (now (work .exit)) .name ≡ (now (work .entry)) .name ⌝ }
 {
     let done = match kind_of(given, *table, node) {
         0 => answer(pos_of(spot), 0),
-        1 => answer(
-            range_end(
-                *line,
-                a_of(given, *table, node),
-                b_of(given, *table, node),
-                pos_of(spot),
-            ),
-            0,
-        ),
+        1 => visit_range(given, *table, *line, pos_of(spot), node),
         2 => use_free(given, table, line, work, spot, a_of(given, *table, node)),
         3 => visit_pair(given, table, line, work, spot, node),
         4 => visit_pair(given, table, line, work, spot, node),
@@ -542,7 +577,7 @@ fn apply(
         ),
         _ => answer(pos_of(spot), 0),
     };
-    if given[1] == 0 {
+    if given[KEEPS] == 0 {
         return done;
     }
     keep(
@@ -566,21 +601,13 @@ fn visit_open(
     spot: u64,
     node: u32,
 ) -> u64
-    requires ready { ⌜ Starts (lent (now (now table)) (now given)) (now (now line)) (now (now work)) spot node (posIn spot) ⌝ }
-    requires open { ⌜ (liveIn spot + leftIn spot ≤ 512) × (keepsIn (lent (now (now table)) (now given)) ≡ false) ⌝ }
-    ensures says { λ r. ⌜ Ends (lent (now (now (table .entry))) (now (given .entry))) (now (now (line .entry))) (now (now (work .entry))) (now (now (work .exit))) spot r (λ (l : List Note) (s : State). opens (lent (now (now (table .entry))) (now (given .entry))) (now (now (line .entry))) (leftIn spot) l node (posIn spot) s) ⌝ }
+    requires ready { ⌜ StartsHere (lent (now (now table)) (now given)) (now (now line)) (now (now work)) spot node ⌝ }
+    requires open { ⌜ IsOpen spot × (keepsIn (lent (now (now table)) (now given)) ≡ false) ⌝ }
+    ensures says { λ r. ⌜ Does (lent (now (now (table .entry))) (now (given .entry))) (now (now (line .entry))) (now (now (work .entry))) (now (now (work .exit))) spot r (here opens node) ⌝ }
     ensures lent { λ _. ⌜ (now (work .exit)) .name ≡ (now (work .entry)) .name ⌝ }
 {
     match kind_of(given, *table, node) {
-        1 => answer(
-            range_end(
-                *line,
-                a_of(given, *table, node),
-                b_of(given, *table, node),
-                pos_of(spot),
-            ),
-            0,
-        ),
+        1 => visit_range(given, *table, *line, pos_of(spot), node),
         2 => use_rule(given, table, line, work, spot, a_of(given, *table, node)),
         3 => visit_pair(given, table, line, work, spot, node),
         4 => visit_pair(given, table, line, work, spot, node),
@@ -597,16 +624,16 @@ fn visit(
     spot: u64,
     node: u32,
 ) -> u64
-    requires ready { ⌜ Starts (lent (now (now table)) (now given)) (now (now line)) (now (now work)) spot node (posIn spot) ⌝ }
-    ensures says { λ r. ⌜ EndsVisit (lent (now (now (table .entry))) (now (given .entry))) (now (now (line .entry))) (now (now (work .entry))) (now (now (work .exit))) spot r (λ (l : List Note) (s : State). reading (lent (now (now (table .entry))) (now (given .entry))) (now (now (line .entry))) (leftIn spot) l node (posIn spot) s) ⌝ }
+    requires ready { ⌜ StartsHere (lent (now (now table)) (now given)) (now (now line)) (now (now work)) spot node ⌝ }
+    ensures says { λ r. ⌜ DoesVisit (lent (now (now (table .entry))) (now (given .entry))) (now (now (line .entry))) (now (now (work .entry))) (now (now (work .exit))) spot r (here reading node) ⌝ }
     ensures lent { λ _. ⌜ (now (work .exit)) .name ≡ (now (work .entry)) .name ⌝ }
 {
     let refused = enter(given, work, spot);
     if refused != 0 {
-        return answer(STOPPED, refused * 4096 + pos_of(spot));
+        return answer(STOPPED, refused * PLACES + pos_of(spot));
     }
-    if given[1] == 0 {
-        return visit_open(given, table, line, work, spot - 1, node);
+    if given[KEEPS] == 0 {
+        return visit_open(given, table, line, work, spot - OPEN, node);
     }
     let pos = pos_of(spot);
     let word = kept_word(given, *line, work, node, pos);
@@ -618,20 +645,20 @@ fn visit(
         let list = work[place + 1];
         return answer(word - 2, list);
     }
-    apply(given, table, line, work, spot - 1, node)
+    apply(given, table, line, work, spot - OPEN, node)
 }
 
 // The use of rule 0 at position 0, which is not itself a visit.
 fn first_use(given: &[u32; 3], table: &&[u8], line: &&[u8], work: &mut &mut [u32]) -> u64
-    requires ready { ⌜ Starts (lent (now (now table)) (now given)) (now (now line)) (now (now work)) 512 (rootIn (lent (now (now table)) (now given)) 0) 0 ⌝ }
+    requires ready { ⌜ StartsUse (lent (now (now table)) (now given)) (now (now line)) (now (now work)) beginning 0 ⌝ }
     requires some { ⌜ 0 < rulesIn (lent (now (now table)) (now given)) ⌝ }
-    ensures says { λ r. ⌜ Ends (lent (now (now (table .entry))) (now (given .entry))) (now (now (line .entry))) (now (now (work .entry))) (now (now (work .exit))) 512 r (λ (l : List Note) (s : State). uses (lent (now (now (table .entry))) (now (given .entry))) (now (now (line .entry))) 512 l 0 0 s) ⌝ }
+    ensures says { λ r. ⌜ Does (lent (now (now (table .entry))) (now (given .entry))) (now (now (line .entry))) (now (now (work .entry))) (now (now (work .exit))) beginning r (here uses 0) ⌝ }
     ensures lent { λ _. ⌜ (now (work .exit)) .name ≡ (now (work .entry)) .name ⌝ }
 {
-    if given[1] != 0 {
-        return use_free(given, table, line, work, 512, 0);
+    if given[KEEPS] != 0 {
+        return use_free(given, table, line, work, BEGINNING, 0);
     }
-    use_live(given, table, line, work, 512, 0)
+    use_live(given, table, line, work, BEGINNING, 0)
 }
 
 // The whole reading: what it answers, and the working numbers that it was lent. (They are moved once more before they are returned: `all` itself
@@ -643,9 +670,9 @@ pub fn read_line<'a>(
     work: &'a mut [u32],
     answer: &mut u64,
 ) -> &'a mut [u32]
-    requires ready { ⌜ Starts (lent (now table) (now given)) (now line) (now work) 512 (rootIn (lent (now table) (now given)) 0) 0 ⌝ }
+    requires ready { ⌜ StartsUse (lent (now table) (now given)) (now line) (now work) beginning 0 ⌝ }
     requires some { ⌜ 0 < rulesIn (lent (now table) (now given)) ⌝ }
-    ensures says { λ r. ⌜ Ends (lent (now (table .entry)) (now (given .entry))) (now (line .entry)) (now (work .entry)) (now r) 512 (now (answer .exit)) (λ (l : List Note) (s : State). uses (lent (now (table .entry)) (now (given .entry))) (now (line .entry)) 512 l 0 0 s) ⌝ }
+    ensures says { λ r. ⌜ Does (lent (now (table .entry)) (now (given .entry))) (now (line .entry)) (now (work .entry)) (now r) beginning (now (answer .exit)) (here uses 0) ⌝ }
     ensures lent { λ r. ⌜ r .name ≡ (work .entry) .name ⌝ }
 {
     let mut all = work;

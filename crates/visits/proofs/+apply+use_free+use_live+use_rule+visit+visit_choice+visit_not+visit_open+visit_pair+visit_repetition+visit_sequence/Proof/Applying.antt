@@ -8,13 +8,12 @@ use Rattle.visits.proofs.visit_pair.Reads as visit-pair
 use Rattle.visits.proofs.visit_repetition.Reads as visit-repetition
 use Rattle.visits.proofs.a_of.Reads as a-of-reads
 use Rattle.visits.proofs.answer.Reads as answer-reads
-use Rattle.visits.proofs.b_of.Reads as b-of-reads
 use Rattle.visits.proofs.end_of.Reads as end-of-reads
 use Rattle.visits.proofs.keep.Reads as keep-reads
 use Rattle.visits.proofs.kind_of.Reads as kind-of-reads
 use Rattle.visits.proofs.list_of.Reads as list-of-reads
 use Rattle.visits.proofs.pos_of.Reads as pos-of-reads
-use Rattle.visits.proofs.range_end.Reads as range-end-reads
+use Rattle.visits.proofs.visit_range.Reads as visit-range-reads
 use Prim.Native.Nat.{_-_}
 use borrow.Author.Needs.{needs}
 use native.Mathlib.Omega.{arith}
@@ -37,12 +36,10 @@ apply-claims t = (
   pos-of-reads.Learnt,
   answer-reads.Asked,
   answer-reads.Learnt,
+  visit-range-reads.Asked,
+  visit-range-reads.Learnt,
   a-of-reads.Asked,
   a-of-reads.Learnt,
-  b-of-reads.Asked,
-  b-of-reads.Learnt,
-  range-end-reads.Asked,
-  range-end-reads.Learnt,
   use-free-below t,
   use-free.Post,
   visit-pair-below t,
@@ -84,10 +81,11 @@ apply-met t c =
       refl,
     ))
     (⊎-elim
-    (λ w. rw (w .9, w .10) (
+    (λ w.
+    let range = rw (w .3 .ensures) at (w .4 .ensures) in
+    rw (w .5, w .6) (
       record {
-        came = came-at _ _ (fit .short) _ _ _ _ (w .8 .ensures .0) (w .8 .ensures .1) refl refl
-            (apply-range _ _ fit _ _ _ (ready .node-in) (ready .words) (ready .made-in) (kind ∙ w .0 .keys2) _ _ _ (w .3 .ensures .0) (w .5 .ensures .0) (rw (w .6 .ensures) at (w .7 .ensures)));
+        came = came-at _ _ (fit .short) _ _ _ _ (range .0) (range .1) refl refl (apply-range _ _ fit _ _ _ (ready .node-in) (ready .words) (ready .made-in) (kind ∙ w .0 .keys2));
         cells = omega arith;
       },
       refl,
@@ -136,41 +134,29 @@ apply-pos-of-requires t c κs = tt
 apply-answer-requires : (t : ℕ) → apply-lts.Need-answer-requires (apply-claims t) (apply-at t) apply.Post
 apply-answer-requires t c κs = tt
 
-apply-a-of-requires : (t : ℕ) → apply-lts.Need-a-of-requires (apply-claims t) (apply-at t) apply.Post
-apply-a-of-requires t c κs = node-known (c .before .before .before .before .before .pre .1 .0)
-
-apply-b-of-requires : (t : ℕ) → apply-lts.Need-b-of-requires (apply-claims t) (apply-at t) apply.Post
-apply-b-of-requires t c κs = node-known (c .before .before .before .before .before .before .before .pre .1 .0)
-
 apply-pos-of-requires-2 : (t : ℕ) → apply-lts.Need-pos-of-requires-2 (apply-claims t) (apply-at t) apply.Post
 apply-pos-of-requires-2 t c κs = tt
 
-apply-range-end-requires : (t : ℕ) → apply-lts.Need-range-end-requires (apply-claims t) (apply-at t) apply.Post
-apply-range-end-requires t c κs =
-    let at-start = c .before .before .before .before .before .before .before .before .before in
-    let at-pos-of2 = c .pos-of2 in
-    let ready = at-start .pre .1 .0 in
-    let fit = at-start .pre .1 .0 .fit in
-    (rw (at-pos-of2 .ensures) (ready .pos-in), fit .short)
+apply-visit-range-requires : (t : ℕ) → apply-lts.Need-visit-range-requires (apply-claims t) (apply-at t) apply.Post
+apply-visit-range-requires t c κs =
+    let ready = c .before .before .before .before .before .before .pre .1 .0 in
+    (node-known ready, (rw (c .pos-of2 .ensures) (ready .pos-in), ready .fit .short))
 
-apply-answer-requires-2 : (t : ℕ) → apply-lts.Need-answer-requires-2 (apply-claims t) (apply-at t) apply.Post
-apply-answer-requires-2 t c κs = tt
-
-apply-a-of-requires-2 : (t : ℕ) → apply-lts.Need-a-of-requires-2 (apply-claims t) (apply-at t) apply.Post
-apply-a-of-requires-2 t c κs = node-known (c .before .before .before .before .before .pre .1 .0)
+apply-a-of-requires : (t : ℕ) → apply-lts.Need-a-of-requires (apply-claims t) (apply-at t) apply.Post
+apply-a-of-requires t c κs = node-known (c .before .before .before .before .before .pre .1 .0)
 
 apply-use-free-requires : (t : ℕ) → apply-lts.Need-use-free-requires (apply-claims t) (apply-at t) apply.Post
 apply-use-free-requires t c κs =
     let at-start = c .before .before .before .before .before .before in
-    let at-a-of2 = c .a-of2 in
+    let at-a-of = c .a-of in
     let at-kind-of = c .before .before .before .before .kind-of in
     let at-match = c .before .before .before .match in
     let ready = at-start .pre .1 .0 in
     let fit = at-start .pre .1 .0 .fit in
-    let e = at-a-of2 .ensures .0 in
+    let e = at-a-of .ensures .0 in
     let kind = sym (at-kind-of .ensures .0) ∙ at-match .keys3 in
     let r = rule-used _ _ fit (at-start .args .node) (ready .node-in) kind in
-    let la : at-a-of2 .result < rulesIn (lent (at-start .args .table .now .now) (at-start .args .given .now)) = omega arith in
+    let la : at-a-of .result < rulesIn (lent (at-start .args .table .now .now) (at-start .args .given .now)) = omega arith in
     let few-rules = well-formed _ (fit .accepted) .few-rules in
     (omega (arith, at-start .pre .0), (ready-at _ ready (root-in _ _ fit _ la), (at-start .pre .1 .1 .0, (omega arith, la))))
 
@@ -188,11 +174,26 @@ apply-visit-pair-requires-2 t c κs =
     let at-match = c .before .match in
     (omega (arith, at-start .pre .0), (at-start .pre .1 .0, (at-start .pre .1 .1 .0, inr (sym (at-kind-of .ensures .0) ∙ at-match .keys5))))
 
-apply-a-of-requires-3 : (t : ℕ) → apply-lts.Need-a-of-requires-3 (apply-claims t) (apply-at t) apply.Post
-apply-a-of-requires-3 t c κs = node-known (c .before .before .before .before .before .pre .1 .0)
+apply-a-of-requires-2 : (t : ℕ) → apply-lts.Need-a-of-requires-2 (apply-claims t) (apply-at t) apply.Post
+apply-a-of-requires-2 t c κs = node-known (c .before .before .before .before .before .pre .1 .0)
 
 apply-visit-not-requires : (t : ℕ) → apply-lts.Need-visit-not-requires (apply-claims t) (apply-at t) apply.Post
 apply-visit-not-requires t c κs =
+    let at-start = c .before .before .before .before .before .before in
+    let at-a-of2 = c .a-of2 in
+    let at-kind-of = c .before .before .before .before .kind-of in
+    let at-match = c .before .before .before .match in
+    let ready = at-start .pre .1 .0 in
+    let fit = at-start .pre .1 .0 .fit in
+    let e = at-a-of2 .ensures .0 in
+    let k = not-child _ _ fit (at-start .args .node) (ready .node-in) (sym (at-kind-of .ensures .0) ∙ at-match .keys6) in
+    (omega (arith, at-start .pre .0), (ready-at _ ready (omega arith), at-start .pre .1 .1 .0))
+
+apply-a-of-requires-3 : (t : ℕ) → apply-lts.Need-a-of-requires-3 (apply-claims t) (apply-at t) apply.Post
+apply-a-of-requires-3 t c κs = node-known (c .before .before .before .before .before .pre .1 .0)
+
+apply-visit-repetition-requires : (t : ℕ) → apply-lts.Need-visit-repetition-requires (apply-claims t) (apply-at t) apply.Post
+apply-visit-repetition-requires t c κs =
     let at-start = c .before .before .before .before .before .before in
     let at-a-of3 = c .a-of3 in
     let at-kind-of = c .before .before .before .before .kind-of in
@@ -200,29 +201,14 @@ apply-visit-not-requires t c κs =
     let ready = at-start .pre .1 .0 in
     let fit = at-start .pre .1 .0 .fit in
     let e = at-a-of3 .ensures .0 in
-    let k = not-child _ _ fit (at-start .args .node) (ready .node-in) (sym (at-kind-of .ensures .0) ∙ at-match .keys6) in
-    (omega (arith, at-start .pre .0), (ready-at _ ready (omega arith), at-start .pre .1 .1 .0))
-
-apply-a-of-requires-4 : (t : ℕ) → apply-lts.Need-a-of-requires-4 (apply-claims t) (apply-at t) apply.Post
-apply-a-of-requires-4 t c κs = node-known (c .before .before .before .before .before .pre .1 .0)
-
-apply-visit-repetition-requires : (t : ℕ) → apply-lts.Need-visit-repetition-requires (apply-claims t) (apply-at t) apply.Post
-apply-visit-repetition-requires t c κs =
-    let at-start = c .before .before .before .before .before .before in
-    let at-a-of4 = c .a-of4 in
-    let at-kind-of = c .before .before .before .before .kind-of in
-    let at-match = c .before .before .before .match in
-    let ready = at-start .pre .1 .0 in
-    let fit = at-start .pre .1 .0 .fit in
-    let e = at-a-of4 .ensures .0 in
     let k = repetition-child _ _ fit (at-start .args .node) (ready .node-in) (sym (at-kind-of .ensures .0) ∙ at-match .keys7) in
     (omega (arith, at-start .pre .0), (ready-at _ ready (omega arith), (at-start .pre .1 .1 .0, ready .node-in)))
 
 apply-pos-of-requires-3 : (t : ℕ) → apply-lts.Need-pos-of-requires-3 (apply-claims t) (apply-at t) apply.Post
 apply-pos-of-requires-3 t c κs = tt
 
-apply-answer-requires-3 : (t : ℕ) → apply-lts.Need-answer-requires-3 (apply-claims t) (apply-at t) apply.Post
-apply-answer-requires-3 t c κs = tt
+apply-answer-requires-2 : (t : ℕ) → apply-lts.Need-answer-requires-2 (apply-claims t) (apply-at t) apply.Post
+apply-answer-requires-2 t c κs = tt
 
 apply-element-copy-out-if1 : (t : ℕ) → apply-lts.Need-element-copy-out-if1 (apply-claims t) (apply-at t) apply.Post
 apply-element-copy-out-if1 t c = search needs
@@ -284,21 +270,18 @@ apply-closed M t =
     (apply-kind-of-requires t)
     (apply-pos-of-requires t)
     (apply-answer-requires t)
-    (apply-a-of-requires t)
-    (apply-b-of-requires t)
     (apply-pos-of-requires-2 t)
-    (apply-range-end-requires t)
-    (apply-answer-requires-2 t)
-    (apply-a-of-requires-2 t)
+    (apply-visit-range-requires t)
+    (apply-a-of-requires t)
     (apply-use-free-requires t)
     (apply-visit-pair-requires t)
     (apply-visit-pair-requires-2 t)
-    (apply-a-of-requires-3 t)
+    (apply-a-of-requires-2 t)
     (apply-visit-not-requires t)
-    (apply-a-of-requires-4 t)
+    (apply-a-of-requires-3 t)
     (apply-visit-repetition-requires t)
     (apply-pos-of-requires-3 t)
-    (apply-answer-requires-3 t)
+    (apply-answer-requires-2 t)
     (apply-element-copy-out-if1 t)
     (apply-returns t)
     (apply-slice-aggregate-keep t)

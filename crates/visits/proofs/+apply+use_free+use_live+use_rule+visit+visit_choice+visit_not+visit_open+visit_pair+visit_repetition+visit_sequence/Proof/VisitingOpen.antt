@@ -6,11 +6,9 @@ use Rattle.visits.proofs.visit_open.Reads as visit-open
 use Rattle.visits.proofs.+apply+use_free+use_live+use_rule+visit+visit_choice+visit_not+visit_open+visit_pair+visit_repetition+visit_sequence.Lts-visit_open as visit-open-lts
 use Rattle.visits.proofs.visit_pair.Reads as visit-pair
 use Rattle.visits.proofs.a_of.Reads as a-of-reads
-use Rattle.visits.proofs.answer.Reads as answer-reads
-use Rattle.visits.proofs.b_of.Reads as b-of-reads
 use Rattle.visits.proofs.kind_of.Reads as kind-of-reads
 use Rattle.visits.proofs.pos_of.Reads as pos-of-reads
-use Rattle.visits.proofs.range_end.Reads as range-end-reads
+use Rattle.visits.proofs.visit_range.Reads as visit-range-reads
 use Prim.Native.Nat.{_-_}
 use native.Mathlib.Omega.{arith}
 use mathlib.Core.Logic.{inl, inr}
@@ -23,44 +21,33 @@ use Rattle.visits.proofs.Opening.{plain-opens}
 use Rattle.visits.proofs.+apply+use_free+use_live+use_rule+visit+visit_choice+visit_not+visit_open+visit_pair+visit_repetition+visit_sequence.Proof.Ranks.{apply-below, use-rule-below, visit-open-at, visit-pair-below}
 
 abbrev visit-open-claims : ℕ → visit-open-lts.Claims
-visit-open-claims t = (kind-of-reads.Asked, kind-of-reads.Learnt, a-of-reads.Asked, a-of-reads.Learnt, b-of-reads.Asked, b-of-reads.Learnt, pos-of-reads.Asked, pos-of-reads.Learnt, range-end-reads.Asked, range-end-reads.Learnt, answer-reads.Asked, answer-reads.Learnt, use-rule-below t, use-rule.Post, visit-pair-below t, visit-pair.Post, apply-below t, apply.Post)
+visit-open-claims t = (kind-of-reads.Asked, kind-of-reads.Learnt, pos-of-reads.Asked, pos-of-reads.Learnt, visit-range-reads.Asked, visit-range-reads.Learnt, a-of-reads.Asked, a-of-reads.Learnt, use-rule-below t, use-rule.Post, visit-pair-below t, visit-pair.Post, apply-below t, apply.Post)
 
 visit-open-kind-of-requires : (t : ℕ) → visit-open-lts.Need-kind-of-requires (visit-open-claims t) (visit-open-at t) visit-open.Post
 visit-open-kind-of-requires t c κs = node-known (c .before .pre .1 .0)
 
-visit-open-a-of-requires : (t : ℕ) → visit-open-lts.Need-a-of-requires (visit-open-claims t) (visit-open-at t) visit-open.Post
-visit-open-a-of-requires t c κs = node-known (c .before .before .before .before .before .pre .1 .0)
-
-visit-open-b-of-requires : (t : ℕ) → visit-open-lts.Need-b-of-requires (visit-open-claims t) (visit-open-at t) visit-open.Post
-visit-open-b-of-requires t c κs = node-known (c .before .before .before .before .before .before .before .pre .1 .0)
-
 visit-open-pos-of-requires : (t : ℕ) → visit-open-lts.Need-pos-of-requires (visit-open-claims t) (visit-open-at t) visit-open.Post
 visit-open-pos-of-requires t c κs = tt
 
-visit-open-range-end-requires : (t : ℕ) → visit-open-lts.Need-range-end-requires (visit-open-claims t) (visit-open-at t) visit-open.Post
-visit-open-range-end-requires t c κs =
-    let at-start = c .before .before .before .before .before .before .before .before .before in
-    let at-pos-of = c .pos-of in
-    let ready = at-start .pre .1 .0 in
-    (rw (at-pos-of .ensures) (ready .pos-in), ready .fit .short)
+visit-open-visit-range-requires : (t : ℕ) → visit-open-lts.Need-visit-range-requires (visit-open-claims t) (visit-open-at t) visit-open.Post
+visit-open-visit-range-requires t c κs =
+    let ready = c .before .before .before .before .before .before .pre .1 .0 in
+    (node-known ready, (rw (c .pos-of .ensures) (ready .pos-in), ready .fit .short))
 
-visit-open-answer-requires : (t : ℕ) → visit-open-lts.Need-answer-requires (visit-open-claims t) (visit-open-at t) visit-open.Post
-visit-open-answer-requires t c κs = tt
-
-visit-open-a-of-requires-2 : (t : ℕ) → visit-open-lts.Need-a-of-requires-2 (visit-open-claims t) (visit-open-at t) visit-open.Post
-visit-open-a-of-requires-2 t c κs = node-known (c .before .before .before .before .before .pre .1 .0)
+visit-open-a-of-requires : (t : ℕ) → visit-open-lts.Need-a-of-requires (visit-open-claims t) (visit-open-at t) visit-open.Post
+visit-open-a-of-requires t c κs = node-known (c .before .before .before .before .before .pre .1 .0)
 
 visit-open-use-rule-requires : (t : ℕ) → visit-open-lts.Need-use-rule-requires (visit-open-claims t) (visit-open-at t) visit-open.Post
 visit-open-use-rule-requires t c κs =
     let at-start = c .before .before .before .before .before .before in
-    let at-a-of2 = c .a-of2 in
+    let at-a-of = c .a-of in
     let at-kind-of = c .before .before .before .before .kind-of in
     let at-match = c .before .before .before .match in
     let ready = at-start .pre .1 .0 in
     let fit = ready .fit in
-    let e = at-a-of2 .ensures .0 in
+    let e = at-a-of .ensures .0 in
     let r = rule-used _ _ fit (at-start .args .node) (ready .node-in) (sym (at-kind-of .ensures .0) ∙ at-match .keys2) in
-    let la : at-a-of2 .result < rulesIn (lent (at-start .args .table .now .now) (at-start .args .given .now)) = omega arith in
+    let la : at-a-of .result < rulesIn (lent (at-start .args .table .now .now) (at-start .args .given .now)) = omega arith in
     (omega (arith, at-start .pre .0), (ready-at _ ready (root-in _ _ fit _ la), ((at-start .pre .1 .1 .0, la), at-start .pre .1 .1 .1)))
 
 visit-open-visit-pair-requires : (t : ℕ) → visit-open-lts.Need-visit-pair-requires (visit-open-claims t) (visit-open-at t) visit-open.Post
@@ -86,20 +73,15 @@ visit-open-apply-requires t c κs =
 
 visit-open-returns : (t : ℕ) → visit-open-lts.Need-returns (visit-open-claims t) (visit-open-at t) visit-open.Post
 visit-open-returns t c =
-    let at-start = c .before .before .before .before .before .before .before .before .before .before .before in
-    let at-answer = c .answer in
-    let at-kind-of = c .before .before .before .before .before .before .before .before .before .kind-of in
-    let at-match = c .before .before .before .before .before .before .before .before .match in
-    let at-a-of = c .before .before .before .before .before .a-of in
-    let at-b-of = c .before .before .before .b-of in
-    let at-pos-of = c .before .before .pos-of in
-    let at-range-end = c .before .range-end in
+    let at-start = c .before .before .before .before .before .before .before in
+    let at-kind-of = c .before .before .before .before .before .kind-of in
+    let at-match = c .before .before .before .before .match in
+    let at-range = rw (c .before .pos-of .ensures) at (c .visit-range .ensures) in
     let ready = at-start .pre .1 .0 in
     let fit = ready .fit in (
       plain-opens (lent (at-start .args .table .now .now) (at-start .args .given .now)) (at-start .args .line .now .now) (at-start .args .work .now .now) (at-start .args .spot) (at-start .args .node) (posIn (at-start .args .spot)) ready (at-start .pre .1 .1 .1) _ _
           (record {
-            came = came-at _ _ (fit .short) _ _ _ _ (at-answer .ensures .0) (at-answer .ensures .1) refl refl
-                (apply-range _ _ fit _ _ _ (ready .node-in) (ready .words) (ready .made-in) (sym (at-kind-of .ensures .0) ∙ at-match .keys1) _ _ _ (at-a-of .ensures .0) (at-b-of .ensures .0) (rw (at-pos-of .ensures) at (at-range-end .ensures)));
+            came = came-at _ _ (fit .short) _ _ _ _ (at-range .0) (at-range .1) refl refl (apply-range _ _ fit _ _ _ (ready .node-in) (ready .words) (ready .made-in) (sym (at-kind-of .ensures .0) ∙ at-match .keys1));
             cells = omega arith;
           }),
       refl,
@@ -110,12 +92,12 @@ visit-open-returns-2 t c =
     let at-start = c .before .before .before .before .before .before .before in
     let at-kind-of = c .before .before .before .before .before .kind-of in
     let at-match = c .before .before .before .before .match in
-    let at-a-of2 = c .before .a-of2 in
+    let at-a-of = c .before .a-of in
     let at-use-rule = c .use-rule in
     let ready = at-start .pre .1 .0 in (
       plain-opens (lent (at-start .args .table .now .now) (at-start .args .given .now)) (at-start .args .line .now .now) (at-start .args .work .now .now) (at-start .args .spot) (at-start .args .node) (posIn (at-start .args .spot)) ready (at-start .pre .1 .1 .1) _ _
           (record {
-            came = apply-rule _ _ (ready .fit) _ _ _ (ready .node-in) (sym (at-kind-of .ensures .0) ∙ at-match .keys2) _ (at-a-of2 .ensures .0) (at-use-rule .ensures .0 .came);
+            came = apply-rule _ _ (ready .fit) _ _ _ (ready .node-in) (sym (at-kind-of .ensures .0) ∙ at-match .keys2) _ (at-a-of .ensures .0) (at-use-rule .ensures .0 .came);
             cells = at-use-rule .ensures .0 .cells;
           }),
       at-use-rule .ensures .1,
@@ -145,12 +127,9 @@ visit-open-closed M t =
     (visit-open-at t)
     visit-open.Post
     (visit-open-kind-of-requires t)
-    (visit-open-a-of-requires t)
-    (visit-open-b-of-requires t)
     (visit-open-pos-of-requires t)
-    (visit-open-range-end-requires t)
-    (visit-open-answer-requires t)
-    (visit-open-a-of-requires-2 t)
+    (visit-open-visit-range-requires t)
+    (visit-open-a-of-requires t)
     (visit-open-use-rule-requires t)
     (visit-open-visit-pair-requires t)
     (visit-open-visit-pair-requires-2 t)
