@@ -1,3 +1,4 @@
+pub mod Choose
 pub mod Chains
 pub mod Answers
 pub mod Runs
