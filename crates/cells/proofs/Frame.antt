@@ -10,7 +10,7 @@ use lib.ListN.{length, getD, length-append, List·getD-append}
 use lib.Seq.{sets, length-sets, getD-at}
 use borrow.Author.Tests.{le-ltb, lt-ltb}
 use Rattle.meaning.specs.Grammar.{Trees, no-trees, tree, _⋈_}
-use Rattle.stored.proofs.Sets.{sets-below, sets-above}
+use Rattle.meaning.proofs.Sets.{sets-below, sets-above}
 use Rattle.cells.specs.Cells.{mark, cellTrees, lists, treesAt}
 use Rattle.cells.specs.Arena.{Arena, Made}
 
