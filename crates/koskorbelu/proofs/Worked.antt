@@ -14,7 +14,7 @@ use Rattle.meaning.specs.Reading.{recall, visited, visit, readBy, read}
 use Rattle.meaning.specs.Reading as reading
 use Rattle.meaning.specs.Report.{bound}
 use Rattle.meaning.proofs.Choose.{by-test-twice}
-use Rattle.sheet.specs.Table.{lengthOf, nodesOf, rulesOf, rootOf, formula, kindOf, aOf, bOf, nodeOf, grammarOf}
+use Rattle.sheet.specs.Table.{lengthOf, nodesOf, rulesOf, rootOf, formula, kindOf, fieldOf, nodeOf, grammarOf}
 use Rattle.sheet.specs.Check.{READ, firstFault, rootFault, fieldsFit, faultOf, nodeFault, checkOf, Accepted}
 use Rattle.sheet.proofs.Exact.{accepted-iff}
 use Rattle.sheet.proofs.Worked.{tableA, tableB}
@@ -189,7 +189,7 @@ all-hold (l ∷ ls) h = (holds l (head-eq-of-cons-eq h), all-hold ls (tail-eq-of
 all-computed : map computed worked ≡ map wanted worked
 unfolding worked roomy matched wrap fits look after byte joined second otherwise reading.denied repeatFrom repeated wrapped apply longer attempted grow firstAttempt useLive keep
     counted useRule recall visited visit readBy read emptyNodes ledTo reach isFree checkOf firstFault rootFault nodeFault faultOf fieldsFit lengthOf
-    nodesOf rulesOf rootOf formula kindOf aOf bOf nodeOf grammarOf recordsOf numberOf inBytes recordBytes treesBytes headBytes storedOf
+    nodesOf rulesOf rootOf formula kindOf fieldOf nodeOf grammarOf recordsOf numberOf inBytes recordBytes treesBytes headBytes storedOf
 all-computed = refl
 
 -- With demand 3's bound for B on `1,5`.
