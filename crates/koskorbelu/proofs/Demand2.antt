@@ -112,6 +112,19 @@ module _ (c : Call) where
   demand-2 a = let t = was-taken (given c) a in by-rules t refl (came c t) a
 
   -- ---- Beyond it.
+  -- No call makes more visits than are allowed, turned away or not.
+  pub within-allowance : visits (back c) ≤ c .allowance
+  within-allowance = of (given c)
+    where
+      of : {o : Outcome} → Given c o → visits o ≤ c .allowance
+      of (check h n) = omega arith
+      of (line w h) = omega arith
+      of (allow w s h) = omega arith
+      of (work w s l h) = omega arith
+      of (taken t (effort e)) = omega arith
+      of (taken t (deep e)) = omega arith
+      of (taken t (done e h)) = rw (ended-visits h) (omega arith)
+
   -- Refused for effort, exactly the visits allowed were made; refused for depth, fewer.
   pub effort-visits : code (back c) ≡ EFFORT → visits (back c) ≡ c .allowance
   effort-visits e =
