@@ -11,7 +11,7 @@ use lib.Arith.{digits-div, digits-mod}
 use lib.Pow.{pow-pos, shl-exact, shr-lt}
 use lib.Bits.{bitAnd, bitOr, or-step, and-step, and-mask, or-add-and, and-le-r, shifted-half, shifted-even, or-shifted-r}
 use lib.Count.{ones, ones-step, ones-le, trailingZeros, under}
-use Rattle.bits.specs.Mask.{digit, has, Added, Joined, one, howMany, next, least}
+use Rattle.bits.specs.Mask.{digit, has, Added, one, howMany, next, least}
 
 pub low : (n : ℕ) → n % 2 < 2
 low n = mod-lt n (lit< tt)
@@ -68,15 +68,12 @@ unfolding digit
 digit-or a b zero = or-low a b
 digit-or a b (suc i) = ap (λ (x : ℕ). digit x i) (or-half a b) ∙ digit-or (a / 2) (b / 2) i
 
-has-or : (a b i : ℕ) → has (bitOr a b) i ≡ (has a i || has b i)
+pub has-or : (a b i : ℕ) → has (bitOr a b) i ≡ (has a i || has b i)
 unfolding has
 has-or a b i = ap (λ (x : ℕ). eqb x 1) (digit-or a b i) ∙ max-low (digit a i) (digit b i) (digit-low a i) (digit-low b i) .1
 
 le-or : (a b : ℕ) → a ≤ bitOr a b
 le-or a b = omega (arith, or-add-and a b, and-le-r a b)
-
-pub joined : (a b : ℕ) → Joined a b (bitOr a b)
-joined a b = record { bits = has-or a b; grows = le-or a b }
 
 pub added : (m i : ℕ) → i < 64 → Added m i (bitOr m ((1 * 2 ^ i) % 2 ^ 64))
 added m i h = rw (shifted i h) (record { bits = λ j. has-or m (1 * 2 ^ i) j ∙ ap (λ t. has m j || t) (has-shift i j); grows = le-or m (1 * 2 ^ i) })

@@ -19,11 +19,6 @@ pub record Added (m i r : ℕ) : Type 0 where
   pub bits : (j : ℕ) → has r j ≡ (has m j || eqb j i)
   pub grows : m ≤ r
 
--- r is the union of the sets a and b.
-pub record Joined (a b r : ℕ) : Type 0 where
-  pub bits : (j : ℕ) → has r j ≡ (has a j || has b j)
-  pub grows : a ≤ r
-
 abbrev pub one : Bool → ℕ
 one true = 1
 one false = 0

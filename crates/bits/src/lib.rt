@@ -1,8 +1,8 @@
 // Sets of rules as 64-bit masks: rule i is in the set exactly if bit i of the mask is 1 (document 01, "bit i for rule i").
 //
 // What a caller may rely on, and nothing else:
-// - `has_rule` tests one rule's bit, `add_rule` sets it, `join` makes the union of two sets. Of what they return the contracts say for every j whether
-//   bit j is set, and that no bit is lost, so that a mask which grows is a number which grows: a loop that adds rules until nothing changes ends.
+// - `has_rule` tests one rule's bit, `add_rule` sets it. Of what it returns the contract says for every j whether bit j is set, and that no bit
+//   is lost, so that a mask which grows is a number which grows: a loop that adds rules until nothing changes ends.
 // - `count` is how many rules the set has, and `lowest` its lowest rule, 64 if it is empty.
 // - `low_half` and `high_half` split a mask into two 32-bit words, `from_halves` puts it together again: lent working numbers have 32 bits.
 //
@@ -11,7 +11,7 @@
 
 ghost use mathlib.Core.Path.{_≡_};
 ghost use Prim.Native.Nat.{ℕ, _+_, _*_, _/_, _%_, _^_, _<_};
-ghost use Rattle.bits.specs.Mask.{has, Added, Joined, howMany, least};
+ghost use Rattle.bits.specs.Mask.{has, Added, howMany, least};
 
 // Whether the set has the rule.
 pub fn has_rule(mask: u64, rule: usize) -> bool
@@ -27,13 +27,6 @@ pub fn add_rule(mask: u64, rule: usize) -> u64
     ensures { λ r. ⌜ Added mask rule r ⌝ }
 {
     mask | (1u64 << rule)
-}
-
-// The rules of either set.
-pub fn join(a: u64, b: u64) -> u64
-    ensures { λ r. ⌜ Joined a b r ⌝ }
-{
-    a | b
 }
 
 // How many rules the set has.

@@ -10,9 +10,9 @@ use lib.ListN.{length, getD, length-append, List·getD-append}
 use lib.Seq.{sets, length-sets, getD-at}
 use borrow.Author.Tests.{le-ltb, lt-ltb}
 use Rattle.meaning.specs.Grammar.{Trees, no-trees, tree, _⋈_}
-use Rattle.stored.proofs.Sets.{sets-below, sets-above}
+use Rattle.meaning.proofs.Sets.{sets-above}
 use Rattle.cells.specs.Cells.{mark, cellTrees, lists, treesAt}
-use Rattle.cells.specs.Arena.{Arena, Made}
+use Rattle.cells.specs.Arena.{Arena}
 
 length-lists : (words : List ℕ) (k : ℕ) → length (lists words k) ≡ suc k
 unfolding lists
@@ -56,22 +56,9 @@ module _ (words : List ℕ) (top k : ℕ) (arena : Arena words top) (h : k < top
 abbrev pub SameCells : List ℕ → List ℕ → ℕ → Type 0
 SameCells old new top = (i : ℕ) → 2045 ≤ i → i < 2048 + 4 * top → getD new i 0 ≡ getD old i 0
 
-pub same-then : (old mid new : List ℕ) (top : ℕ) → SameCells old mid top → SameCells mid new top → SameCells old new top
-same-then old mid new top h g i a b = g i a b ∙ h i a b
-
-pub same-less : (old new : List ℕ) (top k : ℕ) → k ≤ top → SameCells old new top → SameCells old new k
-same-less old new top k l h i a b = h i a (omega arith)
-
--- Words are written below the cells, or above them.
+-- Words are written below the cells.
 pub same-below : (words : List ℕ) (top at : ℕ) (xs : List ℕ) → at + length xs ≤ 2045 → SameCells words (sets words at xs) top
 same-below words top at xs h i a b = sets-above xs words at i (omega arith)
-
-pub same-above : (words : List ℕ) (top at : ℕ) (xs : List ℕ) → 2048 + 4 * top ≤ at → SameCells words (sets words at xs) top
-same-above words top at xs h i a b = sets-below xs words at i (omega arith)
-
--- Making a list leaves the older cells.
-pub made-same : {old new : List ℕ} {top list top′ : ℕ} {ts : Trees} → Made old new top list top′ ts → SameCells old new top
-made-same m i a b = m .below i b
 
 pub lists-same : (old new : List ℕ) (k : ℕ) → SameCells old new k → lists new k ≡ lists old k
 unfolding lists
@@ -107,10 +94,3 @@ arena-less words top k h a = record {
 
 pub arena-below : (words : List ℕ) (top at : ℕ) (xs : List ℕ) → at + length xs ≤ 2045 → Arena words top → Arena (sets words at xs) top
 arena-below words top at xs h a = arena-same words (sets words at xs) top (same-below words top at xs h) (length-sets words at xs) a
-
-pub arena-above : (words : List ℕ) (top at : ℕ) (xs : List ℕ) → 2048 + 4 * top ≤ at → Arena words top → Arena (sets words at xs) top
-arena-above words top at xs h a = arena-same words (sets words at xs) top (same-above words top at xs h) (length-sets words at xs) a
-
--- Making a list leaves the older lists.
-pub made-older : {old new : List ℕ} {top list top′ : ℕ} {ts : Trees} → Made old new top list top′ ts → (older : ℕ) → older ≤ top → treesAt new older ≡ treesAt old older
-made-older {old} {new} {top} m older l = trees-same old new top older (made-same m) l

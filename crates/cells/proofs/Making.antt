@@ -3,15 +3,14 @@ use mathlib.Core.Path.{_≡_, refl, sym, _∙_}
 use mathlib.Core.Logic.{⊎-elim}
 use mathlib.Core.List.{List, [], _∷_}
 use native.Mathlib.Omega.{arith}
-use native.Mathlib.Numerals.{add-one, add-two, add-three}
 use native.Mathlib.Nat.{eq-or-lt-of-le}
 use Prim.Native.Nat.{ℕ, zero, suc, _+_, _*_, _/_, _%_, _<_, _≤_}
-use lib.ListN.{length, getD, set}
+use lib.ListN.{length, getD}
 use lib.Seq.{sets, length-sets}
 use borrow.Author.Tests.{le-ltb, lt-ltb}
 use Rattle.meaning.specs.Grammar.{Trees, no-trees, tree, _⋈_}
 use Rattle.stored.specs.Stored.{recordsOf, numberOf}
-use Rattle.stored.proofs.Sets.{sets-below, sets-above, sets-at}
+use Rattle.meaning.proofs.Sets.{sets-below, sets-above, sets-at}
 use Rattle.stored.proofs.Bytes.{join-none, records-join, number-join}
 use Rattle.cells.specs.Cells.{saturated, mark, packed, cellTrees, lists, treesAt, recordsWord, treesWord, withCell, withTree, withJoin, joined, joinOf}
 use Rattle.cells.specs.Arena.{Arena, Made}
@@ -141,11 +140,6 @@ no-cells words h =
       records = λ list u. let z : list ≡ 0 = omega arith in rw z (rw (trees-none new) (sets-at (0 ∷ 0 ∷ 0 ∷ []) words 2045 0 (omega arith) (omega arith)));
       trees = λ list u. let z : list ≡ 0 = omega arith in rw z (rw (trees-none new) (sets-at (0 ∷ 0 ∷ 0 ∷ []) words 2045 2 (omega arith) (omega arith)));
     }
-
--- What the code writes, store by store.
-pub cell-put : (words : List ℕ) (k f s r t : ℕ) → set (set (set (set words (2048 + 4 * k) f) (2048 + 4 * k + 1) r) (2048 + 4 * k + 2) s) (2048 + 4 * k + 3) t ≡ withCell words k f s r t
-unfolding withCell
-cell-put words k f s r t = rw (add-one, add-two, add-three)
 
 -- Joining, where a side is empty and where none is.
 words-left : (words : List ℕ) (top f s : ℕ) → (f ≡ 0 → ⊥) → s ≡ 0 → joined words f top ≡ joinOf words top f s

@@ -8,7 +8,7 @@ use lib.ListN.{length, getD, set}
 use lib.Seq.{sets, length-sets, set-comm}
 use Rattle.meaning.specs.Grammar.{Trees, no-trees, tree, _⋈_}
 use Rattle.stored.specs.Stored.{recordsOf, numberOf, recordSize, recordBytes, treesBytes, storedLength, headBytes, storedOf, withStored}
-use Rattle.stored.proofs.Sets.{sets-on, sets-front}
+use Rattle.meaning.proofs.Sets.{sets-on, sets-front}
 use Rattle.stored.proofs.Bytes.{length-head, length-trees, length-stored, bytes-join, records-join, records-tree, number-few}
 use Rattle.cells.specs.Cells.{saturated, mark, treesAt, Wrote}
 use Rattle.cells.specs.Arena.{Arena}

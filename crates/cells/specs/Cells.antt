@@ -10,6 +10,10 @@ use lib.Dec.{ltb}
 use Rattle.meaning.specs.Grammar.{Trees, no-trees, tree, _⋈_}
 use Rattle.stored.specs.Stored.{recordsOf, recordSize, treesBytes}
 
+-- Where the cells start.
+abbrev pub cells : ℕ
+cells = 2048
+
 -- A count in a cell goes no further than 1,001.
 abbrev pub saturated : ℕ → ℕ
 saturated n = min n 1001
@@ -19,17 +23,23 @@ abbrev pub mark : ℕ
 mark = 1073741824
 
 -- Rule, start and end in 6, 12 and 12 bits.
+abbrev pub ruleUnit : ℕ
+ruleUnit = 16777216
+
+abbrev pub startUnit : ℕ
+startUnit = 4096
+
 abbrev pub packed : ℕ → ℕ → ℕ → ℕ
-packed a x e = mark + a * 16777216 + x * 4096 + e
+packed a x e = mark + a * ruleUnit + x * startUnit + e
 
 -- A cell by its first and second, over the lists below it: one tree, by its children and what is packed; or two lists joined.
 unfoldable pub cellTrees : ℕ → ℕ → List Trees → Trees
-cellTrees f s below = cond (ltb s mark) (getD below f no-trees ⋈ getD below s no-trees) (tree (s / 16777216 % 64) (s / 4096 % 4096) (s % 4096) (getD below f no-trees) no-trees)
+cellTrees f s below = cond (ltb s mark) (getD below f no-trees ⋈ getD below s no-trees) (tree (s / ruleUnit % 64) (s / startUnit % startUnit) (s % startUnit) (getD below f no-trees) no-trees)
 
 -- The trees of the lists 0 to k.
 unfoldable pub lists : List ℕ → ℕ → List Trees
 lists words zero = no-trees ∷ []
-lists words (suc k) = let below = lists words k in below ++ (cellTrees (getD words (2048 + 4 * k) 0) (getD words (2050 + 4 * k) 0) below ∷ [])
+lists words (suc k) = let below = lists words k in below ++ (cellTrees (getD words (cells + 4 * k) 0) (getD words (cells + 2 + 4 * k) 0) below ∷ [])
 
 -- The trees that a list stands for.
 unfoldable pub treesAt : List ℕ → ℕ → Trees
@@ -44,7 +54,7 @@ treesWord words list = getD words (2047 + 4 * list) 0
 
 -- Cell k written: its first, its records, its second, its trees.
 unfoldable pub withCell : List ℕ → ℕ → ℕ → ℕ → ℕ → ℕ → List ℕ
-withCell words k f s records trees = sets words (2048 + 4 * k) (f ∷ records ∷ s ∷ trees ∷ [])
+withCell words k f s records trees = sets words (cells + 4 * k) (f ∷ records ∷ s ∷ trees ∷ [])
 
 -- One tree written as cell k.
 abbrev pub withTree : List ℕ → ℕ → ℕ → ℕ → ℕ → ℕ → List ℕ

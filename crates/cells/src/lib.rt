@@ -17,6 +17,28 @@ ghost use Rattle.stored.specs.Stored.{recordsOf, numberOf, recordSize, storedLe
 ghost use Rattle.cells.specs.Cells.{saturated, treesAt, withCell, withTree, withJoin, joined, joinOf, Wrote};
 ghost use Rattle.cells.specs.Arena.{Arena, Made};
 
+// Where the cells start.
+const CELLS: usize = 2048;
+
+// The words of the cell that list 0 would have, before the first. Its two counts do stand there.
+const FIRST_OF: usize = 2044;
+
+const RECORDS_OF: usize = 2045;
+
+const SECOND_OF: usize = 2046;
+
+const TREES_OF: usize = 2047;
+
+// A count goes no further.
+const MOST_COUNTED: u32 = 1001;
+
+// What is packed in the second of a tree's cell, which is at least MARK: rule, start and end in 6, 12 and 12 bits.
+const MARK: u32 = 1073741824;
+
+const RULE: u32 = 16777216;
+
+const START: u32 = 4096;
+
 // A list of trees, and the number of cells in use.
 pub struct Held {
     pub list: u32,
@@ -29,19 +51,19 @@ pub fn no_cells(work: &mut [u32])
     ensures words { λ _. ⌜ now (work .exit) ≡ sets (now (work .entry)) 2045 (0 ∷ 0 ∷ 0 ∷ []) ⌝ }
     ensures arena { λ _. ⌜ Arena (now (work .exit)) 0 ⌝ }
 {
-    work[2045] = 0;
-    work[2046] = 0;
-    work[2047] = 0;
+    work[RECORDS_OF] = 0;
+    work[SECOND_OF] = 0;
+    work[TREES_OF] = 0;
 }
 
 // A count that goes no further than 1,001.
 fn saturate(n: u32) -> u32
     ensures { λ r. ⌜ r ≡ saturated n ⌝ }
 {
-    if n < 1001 {
+    if n < MOST_COUNTED {
         return n;
     }
-    1001
+    MOST_COUNTED
 }
 
 // Writes a cell.
@@ -49,7 +71,7 @@ fn put_cell(work: &mut [u32], top: u32, first: u32, second: u32, records: u32, t
     requires { ⌜ 2048 + 4 * top + 3 < length (now work) ⌝ }
     ensures { λ _. ⌜ now (work .exit) ≡ withCell (now (work .entry)) top first second records trees ⌝ }
 {
-    let at = 2048 + 4 * top as usize;
+    let at = CELLS + 4 * top as usize;
     work[at] = first;
     work[at + 1] = records;
     work[at + 2] = second;
@@ -61,15 +83,15 @@ pub fn records_of(work: &[u32], list: u32) -> u32
     requires { ⌜ Arena (now work) list ⌝ }
     ensures { λ r. ⌜ r ≡ saturated (recordsOf (treesAt (now (work .entry)) list)) ⌝ }
 {
-    work[2045 + 4 * list as usize]
+    work[RECORDS_OF + 4 * list as usize]
 }
 
 // How many trees a list has, at most 1,001.
-pub fn trees_of(work: &[u32], list: u32) -> u32
+fn trees_of(work: &[u32], list: u32) -> u32
     requires { ⌜ Arena (now work) list ⌝ }
     ensures { λ r. ⌜ r ≡ saturated (numberOf (treesAt (now (work .entry)) list)) ⌝ }
 {
-    work[2047 + 4 * list as usize]
+    work[TREES_OF + 4 * list as usize]
 }
 
 // Makes the list top + 1: one tree.
@@ -80,12 +102,12 @@ pub fn put_tree(work: &mut [u32], top: u32, rule: u32, start: u32, end: u32, chi
     ensures words { λ _. ⌜ now (work .exit) ≡ withTree (now (work .entry)) top rule start end children ⌝ }
     ensures made { λ _. ⌜ Made (now (work .entry)) (now (work .exit)) top (top + 1) (top + 1) (tree rule start end (treesAt (now (work .entry)) children) no-trees) ⌝ }
 {
-    let records = saturate(work[2045 + 4 * children as usize] + 1);
+    let records = saturate(work[RECORDS_OF + 4 * children as usize] + 1);
     put_cell(
         work,
         top,
         children,
-        1073741824 + rule * 16777216 + start * 4096 + end,
+        MARK + rule * RULE + start * START + end,
         records,
         1,
     );
@@ -97,8 +119,10 @@ fn put_join(work: &mut [u32], top: u32, left: u32, right: u32)
     requires room { ⌜ (2048 + 4 * top + 3 < length (now work)) × (top < 1073741823) ⌝ }
     ensures { λ _. ⌜ now (work .exit) ≡ withJoin (now (work .entry)) top left right ⌝ }
 {
-    let records = saturate(work[2045 + 4 * left as usize] + work[2045 + 4 * right as usize]);
-    let trees = saturate(work[2047 + 4 * left as usize] + work[2047 + 4 * right as usize]);
+    let records = saturate(
+        work[RECORDS_OF + 4 * left as usize] + work[RECORDS_OF + 4 * right as usize],
+    );
+    let trees = saturate(work[TREES_OF + 4 * left as usize] + work[TREES_OF + 4 * right as usize]);
     put_cell(work, top, left, right, records, trees);
 }
 
@@ -133,19 +157,19 @@ fn write_trees(work: &[u32], room: &mut [u8], width: usize, list: u32, end: usiz
     let mut rest = list;
     let mut to = end;
     while rest != 0 {
-        let cell = 2044 + 4 * rest as usize;
+        let cell = FIRST_OF + 4 * rest as usize;
         let first = work[cell];
         let second = work[cell + 2];
-        if 1073741824 <= second {
+        if MARK <= second {
             let number = trees_of(work, first);
             to -= 3 + 2 * width;
             stored::put_record(
                 room,
                 width,
                 to,
-                second / 16777216 % 64,
-                second / 4096 % 4096,
-                second % 4096,
+                second / RULE % 64,
+                second / START % START,
+                second % START,
                 number,
             );
         } else {

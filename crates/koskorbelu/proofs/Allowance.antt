@@ -9,12 +9,12 @@ use lib.Dec.{ltb}
 use lib.ListN.{length}
 use Rattle.meaning.specs.Grammar.{Answer, fail, ok}
 use Rattle.meaning.specs.Decide.{isFree}
-use Rattle.meaning.specs.Reading.{State, Run, read}
+use Rattle.meaning.specs.Reading.{State, made, Run, read}
+use Rattle.meaning.proofs.Choose.{by-test-twice}
 use Rattle.stored.specs.Stored.{recordsOf, storedLength}
 use Rattle.reader.specs.declared.Reading.{Reading}
 use Rattle.reader.specs.Answer.{EFFORT, DEEP, mostRecords, positionWidth, Outcome, matchOutcome}
-use Rattle.koskorbelu.specs.Demands.{Call, back, code, visits, grammar, run, made, ended, Came, effort, deep, done, Taken, taken, Answers}
-use Rattle.koskorbelu.proofs.Choose.{by-test-twice}
+use Rattle.koskorbelu.specs.Demands.{Call, back, code, visits, grammar, run, ended, Came, effort, deep, done, Taken, taken, Answers}
 use Rattle.koskorbelu.proofs.Demand1.{told, by-answer, gives, came}
 use Rattle.koskorbelu.proofs.Steady.{done-always, deep-always, larger, fewer}
 use Rattle.koskorbelu.proofs.Demand2.{not-answering, ended-visits, ended-answers}
@@ -38,12 +38,12 @@ module _ (c : Call) (t : Taken c) (a : ℕ) (w : List ℕ) (t′ : Taken (allowi
       (by-test-twice Alike (ltb (length (c .room)) (storedLength positionWidth (recordsOf ts))) _ _ _ _ (record { reading = refl; room = refl }) (record { reading = refl; room = refl })))
 
   -- How the reading ended, by the code.
-  answered : {o : Outcome} → Came c o → Answers (code o) → (r : Answer) × (s : State) × (run c ≡ Run.done r s) × (visits o ≡ made c s)
+  answered : {o : Outcome} → Came c o → Answers (code o) → (r : Answer) × (s : State) × (run c ≡ Run.done r s) × (visits o ≡ made (c .allowance) s)
   answered (effort m) h = not-answering h (omega arith)
   answered (deep m) h = not-answering h (omega arith)
   answered (done {r = r} {s = s} m h) k = (r, s, m, ended-visits c h)
 
-  refused : {o : Outcome} → Came c o → code o ≡ DEEP → (p : ℕ) × (s : State) × (run c ≡ Run.deep p s) × (o ≡ ended c DEEP p 0 (made c s) 0)
+  refused : {o : Outcome} → Came c o → code o ≡ DEEP → (p : ℕ) × (s : State) × (run c ≡ Run.deep p s) × (o ≡ ended c DEEP p 0 (made (c .allowance) s) 0)
   refused (effort m) e = absurd (omega arith)
   refused (deep {p = p} {s = s} m) e = (p, s, m, refl)
   refused (done m h) e = not-answering (subst Answers e (ended-answers c h)) (omega arith)
@@ -57,20 +57,20 @@ module _ (c : Call) (t : Taken c) (a : ℕ) (w : List ℕ) (t′ : Taken (allowi
       let s = n .1 in
       let m = larger (grammar c) (c .line) (isFree (grammar c)) a (n .0) 0 (Run.done (k .0)) (n .2) (omega arith) in
       let l = m .1 in
-      let same : made (allowing c a w) (m .0) ≡ made c (k .1) = omega arith in
-      rw (by-answer c t (k .0) (k .1) (k .2), by-answer (allowing c a w) t′ (k .0) (m .0) (m .2), same) (told-alike (made c (k .1)) (k .0))
+      let same : made a (m .0) ≡ made (c .allowance) (k .1) = omega arith in
+      rw (by-answer c t (k .0) (k .1) (k .2), by-answer (allowing c a w) t′ (k .0) (m .0) (m .2), same) (told-alike (made (c .allowance) (k .1)) (k .0))
 
   pub deep-alike : code (back c) ≡ DEEP → visits (back c) < a → Alike (back c) (back (allowing c a w))
   unfolding read
   deep-alike e le =
       let k = refused (came c t) e in
-      let v : visits (back c) ≡ made c (k .1) = ap visits (k .3) in
+      let v : visits (back c) ≡ made (c .allowance) (k .1) = ap visits (k .3) in
       let n = deep-always (grammar c) (c .line) (isFree (grammar c)) (c .allowance) (k .0) (k .1) (k .2) in
       let s = n .1 in
       let m = larger (grammar c) (c .line) (isFree (grammar c)) a (n .0) 1 (Run.deep (k .0)) (n .2) (omega arith) in
       let l = m .1 in
-      let same : made (allowing c a w) (m .0) ≡ made c (k .1) = omega arith in
-      let there : back (allowing c a w) ≡ ended (allowing c a w) DEEP (k .0) 0 (made (allowing c a w) (m .0)) 0 = gives (allowing c a w) (taken t′ (deep (m .2))) in
+      let same : made a (m .0) ≡ made (c .allowance) (k .1) = omega arith in
+      let there : back (allowing c a w) ≡ ended (allowing c a w) DEEP (k .0) 0 (made a (m .0)) 0 = gives (allowing c a w) (taken t′ (deep (m .2))) in
       rw (k .3, there, same) (record { reading = refl; room = refl })
 
   pub effort-below : Answers (code (back c)) → a < visits (back c) → code (back (allowing c a w)) ≡ EFFORT

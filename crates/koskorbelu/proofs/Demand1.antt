@@ -1,15 +1,17 @@
 -- Demand 1: every call is answered by the row of 01's table of codes whose condition holds, with that row's numbers and buffers, and by no other.
 use mathlib.Core.Path.{_≡_, refl, sym, ap, subst, _∙_}
 use mathlib.Core.Logic.{_↔_, _≢_, _⊎_, inl, inr, Iff·trans, Iff·and, Iff·rfl}
-use mathlib.Core.Bool.{Bool, true, false, _&&_, _||_, and-eq-true-iff, false≢true}
+use mathlib.Core.Bool.{true, _&&_, _||_, and-eq-true-iff}
 use mathlib.Core.List.{List}
+use mathlib.Mathlib.Data.Bool.Basic.{or-eq-false-eq-eq-false-and-eq-false}
 use Prim.Native.Nat.{ℕ, _<_, _≤_}
 use native.Mathlib.Omega.{arith}
 use borrow.Author.Tests.{ltb-true, ltb-false, eqb-true, eqb-false, lt-ltb, le-ltb, eq-eqb, ne-eqb}
 use lib.Dec.{ltb, eqb}
 use lib.ListN.{length}
 use Rattle.meaning.specs.Grammar.{Trees, Answer, fail, ok}
-use Rattle.meaning.specs.Reading.{State, Run}
+use Rattle.meaning.specs.Reading.{State, made, Run}
+use Rattle.meaning.proofs.Choose.{by-test, or-split}
 use Rattle.sheet.specs.declared.Verdict.{Verdict}
 use Rattle.sheet.specs.Table.{WellFormed}
 use Rattle.sheet.specs.Check.{READ, checkOf, verdict, Accepted}
@@ -19,18 +21,8 @@ use Rattle.sheet.proofs.Tests.{failed-iff}
 use Rattle.stored.specs.Stored.{recordsOf, storedLength}
 use Rattle.reader.specs.Answer.{FAIL, ROOM, longestLine, mostAllowance, mostRecords, positionWidth, Outcome, cleared, matchOutcome, runOutcome, readingOf, Leaves}
 use Rattle.reader.specs.declared.Reading.{Reading}
-use Rattle.koskorbelu.proofs.Choose.{by-test}
-use Rattle.koskorbelu.specs.Demands.{Call, back, code, run, made, needed, ended, EndsBefore, Ended, fails, rest, records, room, reads, Came, effort, deep, done, Taken, Given, check, line}
+use Rattle.koskorbelu.specs.Demands.{Call, back, code, run, needed, ended, EndsBefore, Ended, fails, rest, records, room, reads, Came, effort, deep, done, Taken, Given, check, line}
 use Rattle.koskorbelu.specs.Demands.{allow, work, taken, Demand1}
-
--- A test that is one of two holds exactly if either does.
-either : (p q : Bool) → ((p || q) ≡ true) → (p ≡ true) ⊎ (q ≡ true)
-either true q e = inl refl
-either false q e = inr e
-
-neither : (p q : Bool) → ((p || q) ≡ false) → (p ≡ false) × (q ≡ false)
-neither true q e = absurd (false≢true (sym e))
-neither false q e = (refl, e)
 
 module _ (c : Call) where
   ends-iff : (e : ℕ) → ((c .whole && ltb e (length (c .line))) ≡ true) ↔ EndsBefore c e
@@ -58,7 +50,7 @@ module _ (c : Call) where
   told-so (room {e = e} n h l) = rw (failed-iff (ends-iff e) .1 n, le-ltb _ _ h, lt-ltb _ _ l)
   told-so (reads {e = e} n h l) = rw (failed-iff (ends-iff e) .1 n, le-ltb _ _ h, le-ltb _ _ l)
 
-  pub by-answer : Taken c → (r : Answer) (s : State) → run c ≡ Run.done r s → back c ≡ told (made c s) r
+  pub by-answer : Taken c → (r : Answer) (s : State) → run c ≡ Run.done r s → back c ≡ told (made (c .allowance) s) r
   unfolding runOutcome
   by-answer t fail s e = by-run t e
   by-answer t (ok y ts) s e = by-run t e
@@ -76,7 +68,7 @@ module _ (c : Call) where
 
   -- ---- What comes back is given.
   of-match : (e : ℕ) (ts : Trees) (s : State) → run c ≡ Run.done (ok e ts) s
-      → Came c (matchOutcome (c .whole) (length (c .line)) e ts (made c s) (cleared (needed c) (c .work)) (c .room))
+      → Came c (matchOutcome (c .whole) (length (c .line)) e ts (made (c .allowance) s) (cleared (needed c) (c .work)) (c .room))
   unfolding matchOutcome
   of-match e ts s m =
       by-test (Came c) (c .whole && ltb e (length (c .line))) _ _ (λ q. done m (rest (ends-iff e .0 q)))
@@ -113,8 +105,8 @@ module _ (c : Call) where
       let w = exact.accepted-iff (c .table) .0 (zero-code l) in
       by-test (Given c) (ltb longestLine (length (c .line))) _ _ (λ q. line w (ltb-true _ _ q))
       (λ q. let s = ltb-false _ _ q in
-      by-test (Given c) (eqb (c .allowance) 0 || ltb mostAllowance (c .allowance)) _ _ (λ q. allow w s (out-of-range (either _ _ q)))
-      (λ q. let n = neither _ _ q in
+      by-test (Given c) (eqb (c .allowance) 0 || ltb mostAllowance (c .allowance)) _ _ (λ q. allow w s (out-of-range (or-split _ _ q)))
+      (λ q. let n = or-eq-false-eq-eq-false-and-eq-false _ _ .0 q in
       let a : (c .allowance ≢ 0) × (c .allowance ≤ mostAllowance) = (eqb-false _ _ (n .0), ltb-false _ _ (n .1)) in
       by-test (Given c) (ltb (length (c .work)) (needed c)) _ _ (λ q. work w s a (ltb-true _ _ q))
       (λ q. taken (record { sheet = w; short = s; allowed = a; lent = ltb-false _ _ q }) (of-run (run c) refl)))))

@@ -9,7 +9,7 @@ use lib.ListN.{length}
 use Rattle.meaning.specs.Grammar.{Closed, Answer}
 use Rattle.meaning.specs.Rules.{Reads}
 use Rattle.meaning.specs.Report.{Free}
-use Rattle.meaning.specs.Reading.{State, Run, readBy}
+use Rattle.meaning.specs.Reading.{State, made, Run, readBy}
 use Rattle.meaning.proofs.Claims as claims
 use Rattle.meaning.proofs.Claims.{Only}
 use Rattle.meaning.proofs.OneBounded.{one-reading}
@@ -19,7 +19,7 @@ use Rattle.sheet.specs.Check.{READ, checkOf}
 use Rattle.sheet.proofs.Exact.{given-iff, accepted-iff, small-verdict}
 use Rattle.sheet.proofs.Accepting.{closed, rule-count}
 use Rattle.reader.specs.Answer.{EFFORT, DEEP, FAIL, Outcome}
-use Rattle.koskorbelu.specs.Demands.{Call, back, code, visits, grammar, run, made, Ended, fails, rest, records, room, reads, Came, effort, deep, done, Taken, Given, check, line, allow}
+use Rattle.koskorbelu.specs.Demands.{Call, back, code, visits, grammar, run, Ended, fails, rest, records, room, reads, Came, effort, deep, done, Taken, Given, check, line, allow}
 use Rattle.koskorbelu.specs.Demands.{work, taken, Answers, Demand2}
 use Rattle.koskorbelu.proofs.Demand1.{gives, came, given}
 use Rattle.koskorbelu.proofs.Rows.{exactly}
@@ -83,7 +83,7 @@ module _ (c : Call) where
   by-rules t q (deep m) a = not-answering a (omega arith)
   by-rules t {o} q (done {r = r} {s = s} m h) a =
       let found : (n : ℕ) × Only (grammar c) (c .line) r n = rw m at (claims.read-bounded (grammar c) (c .line) (c .allowance)) in
-      let v : visits o ≡ made c s = ended-visits h in
+      let v : visits o ≡ made (c .allowance) s = ended-visits h in
       record {
         answer = r;
         count = found .0;
@@ -94,17 +94,17 @@ module _ (c : Call) where
         kept = λ free. rw (q, v) (kept-count free m);
       }
     where
-      exact-count : ¬ Free (grammar c) → {r : Answer} {s : State} {n : ℕ} → run c ≡ Run.done r s → Reads (grammar c) (c .line) r n → made c s ≡ n
+      exact-count : ¬ Free (grammar c) → {r : Answer} {s : State} {n : ℕ} → run c ≡ Run.done r s → Reads (grammar c) (c .line) r n → made (c .allowance) s ≡ n
       exact-count not-free {r = r} {s = s} m h =
-          let only : Only (grammar c) (c .line) r (made c s) = rw m at (claims.other-sound (grammar c) (c .line) (c .allowance) (is-closed (t .sheet)) not-free) in
+          let only : Only (grammar c) (c .line) r (made (c .allowance) s) = rw m at (claims.other-sound (grammar c) (c .line) (c .allowance) (is-closed (t .sheet)) not-free) in
           one-reading (grammar c) (c .line) (only .reads) h .count
 
       kept-count : Free (grammar c) → {r : Answer} {s : State} → run c ≡ Run.done r s
-          → (spare : ℕ) → (u : State) × (u .left ≡ spare) × (readBy (grammar c) (c .line) true (made c s + spare) ≡ Run.done r u)
+          → (spare : ℕ) → (u : State) × (u .left ≡ spare) × (readBy (grammar c) (c .line) true (made (c .allowance) s + spare) ≡ Run.done r u)
       kept-count free {r = r} {s = s} m j =
           let h = done-always (grammar c) (c .line) true (c .allowance) r s (sym (claims.as-free (grammar c) (c .line) (c .allowance) (is-closed (t .sheet)) free) ∙ m) in
           let e = h .1 in
-          let n : made c s + j ≡ h .0 + j = omega arith in
+          let n : made (c .allowance) s + j ≡ h .0 + j = omega arith in
           let k = h .2 j (omega arith) in
           (k .0, k .1, ap (readBy (grammar c) (c .line) true) n ∙ k .2)
 
@@ -112,17 +112,30 @@ module _ (c : Call) where
   demand-2 a = let t = was-taken (given c) a in by-rules t refl (came c t) a
 
   -- ---- Beyond it.
+  -- No call makes more visits than are allowed, turned away or not.
+  pub within-allowance : visits (back c) ≤ c .allowance
+  within-allowance = of (given c)
+    where
+      of : {o : Outcome} → Given c o → visits o ≤ c .allowance
+      of (check h n) = omega arith
+      of (line w h) = omega arith
+      of (allow w s h) = omega arith
+      of (work w s l h) = omega arith
+      of (taken t (effort e)) = omega arith
+      of (taken t (deep e)) = omega arith
+      of (taken t (done e h)) = rw (ended-visits h) (omega arith)
+
   -- Refused for effort, exactly the visits allowed were made; refused for depth, fewer.
   pub effort-visits : code (back c) ≡ EFFORT → visits (back c) ≡ c .allowance
   effort-visits e =
       let h = exactly c EFFORT .0 e in
-      let z : (h .1 .1 .left ≡ 0) × (made c (h .1 .1) ≡ c .allowance) = rw (h .1 .2) at (claims.effort-made (grammar c) (c .line) (c .allowance)) in
+      let z : (h .1 .1 .left ≡ 0) × (made (c .allowance) (h .1 .1) ≡ c .allowance) = rw (h .1 .2) at (claims.effort-made (grammar c) (c .line) (c .allowance)) in
       rw (gives c (taken (h .0) (effort (h .1 .2)))) (z .1)
 
   pub deep-visits : code (back c) ≡ DEEP → visits (back c) < c .allowance
   deep-visits e =
       let h = exactly c DEEP .0 e in
-      let z : (0 < h .1 .1 .left) × (made c (h .1 .1) + h .1 .1 .left ≡ c .allowance) = rw (h .1 .2) at (claims.effort-made (grammar c) (c .line) (c .allowance)) in
+      let z : (0 < h .1 .1 .left) × (made (c .allowance) (h .1 .1) + h .1 .1 .left ≡ c .allowance) = rw (h .1 .2) at (claims.effort-made (grammar c) (c .line) (c .allowance)) in
       rw (gives c (taken (h .0) (deep (h .1 .2)))) (omega (arith, z .0, z .1))
 
   module _ (t : Taken c) (not-free : ¬ Free (grammar c)) {r : Answer} {n : ℕ} (h : Reads (grammar c) (c .line) r n) where
@@ -134,7 +147,7 @@ module _ (c : Call) where
         of (effort m) q = absurd (rw m at (claims.other-complete (grammar c) (c .line) (c .allowance) (is-closed (t .sheet)) not-free h le))
         of (deep m) q = inl (ap code q)
         of (done {r = r′} {s = s} m k) q =
-            let z : (r′ ≡ r) × (made c s ≡ n) = rw m at (claims.other-complete (grammar c) (c .line) (c .allowance) (is-closed (t .sheet)) not-free h le) in
+            let z : (r′ ≡ r) × (made (c .allowance) s ≡ n) = rw m at (claims.other-complete (grammar c) (c .line) (c .allowance) (is-closed (t .sheet)) not-free h le) in
             inr (rw (q, ← (z .0), ← (z .1)) k)
 
     -- Where the depth suffices, EFFORT comes back exactly if fewer visits are allowed.

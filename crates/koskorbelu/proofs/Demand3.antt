@@ -1,52 +1,46 @@
 -- Demand 3: a free sheet is read within 2 x N x (L + 1) + 1 visits, never refused for effort where so many are allowed, and as the plain rules say.
 use mathlib.Core.Path.{_≡_, refl, sym, subst}
 use mathlib.Core.Logic.{_≢_}
-use Prim.Native.Nat.{ℕ, suc, _+_, _*_, _≤_}
+use Prim.Native.Nat.{ℕ, _+_, _*_, _≤_}
 use native.Mathlib.Nat.{mul-le-mul}
 use native.Mathlib.Omega.{arith}
 use lib.ListN.{length}
 use Rattle.meaning.specs.Grammar.{rule, Answer}
 use Rattle.meaning.specs.Rules.{Plain}
-use Rattle.meaning.specs.Report.{Free}
-use Rattle.meaning.specs.Reading.{State, Run}
+use Rattle.meaning.specs.Report.{Free, bound}
+use Rattle.meaning.specs.Reading.{State, made, Run}
 use Rattle.meaning.proofs.Runs.{Ends}
 use Rattle.meaning.proofs.Claims as claims
-use Rattle.meaning.proofs.Ceiling as ceiling
-use Rattle.sheet.specs.Table.{nodesOf, WellFormed}
+use Rattle.sheet.specs.Table.{WellFormed}
 use Rattle.sheet.proofs.Accepting.{node-count}
 use Rattle.reader.specs.Answer.{EFFORT, DEEP, longestLine, Outcome}
-use Rattle.koskorbelu.specs.Demands.{Call, back, code, visits, grammar, run, made, bound, Ended, Came, effort, deep, done, Taken, Demand3}
+use Rattle.koskorbelu.specs.Demands.{Call, back, code, visits, grammar, run, Ended, Came, effort, deep, done, Taken, Demand3}
 use Rattle.koskorbelu.proofs.Demand1.{came}
 use Rattle.koskorbelu.proofs.Demand2.{ended-visits, is-closed, has-rule, no-effort}
 
 module _ (c : Call) where
-  same-bound : ceiling.bound (grammar c) (c .line) ≡ bound c
-  same-bound = let e : suc (length (c .line)) ≡ length (c .line) + 1 = omega arith in rw (node-count (c .table), e)
-
   -- No call needs a larger allowance than this.
-  pub most-bound : WellFormed (c .table) → length (c .line) ≤ longestLine → bound c ≤ 262145
+  pub most-bound : WellFormed (c .table) → length (c .line) ≤ longestLine → bound (grammar c) (c .line) ≤ 262145
   most-bound w short =
-      let n : 2 * nodesOf (c .table) ≤ 1024 = omega (arith, w .few-nodes) in
+      let n : 2 * length (grammar c .nodes) ≤ 1024 = omega (arith, node-count (c .table), w .few-nodes) in
       let l : length (c .line) + 1 ≤ 256 = omega arith in
-      let p : 2 * nodesOf (c .table) * (length (c .line) + 1) ≤ 1024 * 256 = mul-le-mul n l in
+      let p : 2 * length (grammar c .nodes) * (length (c .line) + 1) ≤ 1024 * 256 = mul-le-mul n l in
       omega arith
 
   module _ (t : Taken c) (free : Free (grammar c)) where
     abbrev Few : State → Type 0
-    Few s = made c s ≤ bound c
+    Few s = made (c .allowance) s ≤ bound (grammar c) (c .line)
 
     at-most : Ends Few Few (λ r. Few) (run c)
-    at-most =
-        subst (λ (most : ℕ). Ends (λ s. made c s ≤ most) (λ s. made c s ≤ most) (λ r s. made c s ≤ most) (run c)) same-bound
-        (claims.free-visits (grammar c) (c .line) (c .allowance) (is-closed c (t .sheet)) free (has-rule c (t .sheet)))
+    at-most = claims.free-visits (grammar c) (c .line) (c .allowance) (is-closed c (t .sheet)) free (has-rule c (t .sheet))
 
-    few : {o : Outcome} → Came c o → visits o ≤ bound c
+    few : {o : Outcome} → Came c o → visits o ≤ bound (grammar c) (c .line)
     few (effort {s = s} m) = let z : Few s = rw m at at-most in z
     few (deep {s = s} m) = let z : Few s = rw m at at-most in z
     few (done {s = s} m h) = let z : Few s = rw m at at-most in rw (ended-visits c h) z
 
     -- Whatever is allowed, and however the reading ends.
-    pub few-visits : visits (back c) ≤ bound c
+    pub few-visits : visits (back c) ≤ bound (grammar c) (c .line)
     few-visits = few (came c t)
 
     -- The plain rules' answer, the only one.
@@ -57,11 +51,10 @@ module _ (c : Call) where
         rw m at (claims.free-sound (grammar c) (c .line) (c .allowance) (is-closed c (t .sheet)) free) in
         (z .0, λ q k. sym (z .1 q k))
 
-    module _ (enough : bound c ≤ c .allowance) where
+    module _ (enough : bound (grammar c) (c .line) ≤ c .allowance) where
       never-effort : {o : Outcome} → Came c o → code o ≢ EFFORT
       never-effort (effort m) e =
-          let le : ceiling.bound (grammar c) (c .line) ≤ c .allowance = rw same-bound enough in
-          rw m at (claims.free-complete (grammar c) (c .line) (c .allowance) (is-closed c (t .sheet)) free (has-rule c (t .sheet)) le)
+          rw m at (claims.free-complete (grammar c) (c .line) (c .allowance) (is-closed c (t .sheet)) free (has-rule c (t .sheet)) enough)
       never-effort (deep m) e = omega arith
       never-effort (done m h) e = no-effort c h e
 

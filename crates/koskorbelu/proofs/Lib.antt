@@ -1,5 +1,4 @@
 pub mod Face
-pub mod Choose
 pub mod Demand1
 pub mod Rows
 pub mod Steady

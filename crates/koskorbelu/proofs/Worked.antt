@@ -12,7 +12,9 @@ use Rattle.meaning.specs.Decide.{emptyNodes, ledTo, reach, isFree}
 use Rattle.meaning.specs.Reading.{Run, after, byte, joined, second, otherwise, repeatFrom, repeated, wrapped, apply, longer, attempted, grow, firstAttempt, useLive, keep, counted, useRule}
 use Rattle.meaning.specs.Reading.{recall, visited, visit, readBy, read}
 use Rattle.meaning.specs.Reading as reading
-use Rattle.sheet.specs.Table.{lengthOf, nodesOf, rulesOf, rootOf, formula, kindOf, aOf, bOf, nodeOf, grammarOf}
+use Rattle.meaning.specs.Report.{bound}
+use Rattle.meaning.proofs.Choose.{by-test-twice}
+use Rattle.sheet.specs.Table.{lengthOf, nodesOf, rulesOf, rootOf, formula, kindOf, fieldOf, nodeOf, grammarOf}
 use Rattle.sheet.specs.Check.{READ, firstFault, rootFault, fieldsFit, faultOf, nodeFault, checkOf, Accepted}
 use Rattle.sheet.proofs.Exact.{accepted-iff}
 use Rattle.sheet.proofs.Worked.{tableA, tableB}
@@ -20,8 +22,7 @@ use Rattle.stored.specs.Stored.{recordsOf, numberOf, inBytes, recordBytes, tree
 use Rattle.stored.proofs.Bytes.{length-stored}
 use Rattle.reader.specs.declared.Reading.{Reading}
 use Rattle.reader.specs.Answer.{EFFORT, DEEP, FAIL, REST, RECORDS, mostRecords, longestLine, mostAllowance, positionWidth, Outcome, numbers, cleared, matchOutcome, runOutcome}
-use Rattle.koskorbelu.specs.Demands.{Call, back, run, needed, bound, Taken}
-use Rattle.koskorbelu.proofs.Choose.{by-test-twice}
+use Rattle.koskorbelu.specs.Demands.{Call, back, run, needed, Taken}
 use Rattle.koskorbelu.proofs.Demand1.{by-run}
 
 -- A worked line: what is asked and lent, the five numbers that come back, and the bytes stored.
@@ -188,10 +189,10 @@ all-hold (l ∷ ls) h = (holds l (head-eq-of-cons-eq h), all-hold ls (tail-eq-of
 all-computed : map computed worked ≡ map wanted worked
 unfolding worked roomy matched wrap fits look after byte joined second otherwise reading.denied repeatFrom repeated wrapped apply longer attempted grow firstAttempt useLive keep
     counted useRule recall visited visit readBy read emptyNodes ledTo reach isFree checkOf firstFault rootFault nodeFault faultOf fieldsFit lengthOf
-    nodesOf rulesOf rootOf formula kindOf aOf bOf nodeOf grammarOf recordsOf numberOf inBytes recordBytes treesBytes headBytes storedOf
+    nodesOf rulesOf rootOf formula kindOf fieldOf nodeOf grammarOf recordsOf numberOf inBytes recordBytes treesBytes headBytes storedOf
 all-computed = refl
 
 -- With demand 3's bound for B on `1,5`.
-pub worked-lines : AllHold worked × ((work room : List ℕ) → bound (call commaLine work room) ≡ 49)
-unfolding nodesOf
-worked-lines = (all-hold worked all-computed, λ work room. refl)
+pub worked-lines : AllHold worked × (bound (grammarOf (commaLine .table)) (commaLine .line) ≡ 49)
+unfolding grammarOf nodesOf
+worked-lines = (all-hold worked all-computed, refl)

@@ -3,18 +3,18 @@ use mathlib.Core.Path.{_≡_}
 use mathlib.Core.Logic.{_≢_, _⊎_}
 use mathlib.Core.Bool.{Bool, true}
 use mathlib.Core.List.{List, _++_}
-use Prim.Native.Nat.{ℕ, _+_, _-_, _*_, _<_, _≤_}
+use Prim.Native.Nat.{ℕ, _+_, _<_, _≤_}
 use lib.ListN.{length, drop}
 use Rattle.meaning.specs.Grammar.{Grammar, rule, Trees, Answer, fail, ok}
 use Rattle.meaning.specs.Rules.{Plain, Reads}
-use Rattle.meaning.specs.Report.{Free}
-use Rattle.meaning.specs.Reading.{State, Run, readBy, read}
+use Rattle.meaning.specs.Report.{Free, bound}
+use Rattle.meaning.specs.Reading.{State, made, Run, readBy, read}
 use Rattle.sheet.specs.Table.{nodesOf, grammarOf, WellFormed}
 use Rattle.sheet.specs.Check.{READ}
 use Rattle.sheet.specs.Given as sheet
 use Rattle.stored.specs.Stored.{recordsOf, storedLength, storedOf}
 use Rattle.reader.specs.Answer.{LINE, ALLOW, WORK, EFFORT, DEEP, FAIL, REST, RECORDS, ROOM, longestLine, mostAllowance, mostRecords, positionWidth, Outcome, numbers, workNeeded, cleared}
-use Rattle.reader.specs.Answer.{readingOf}
+use Rattle.reader.specs.Answer.{turnedAway, readingOf}
 
 -- What is asked, a prefix or the whole line, and what is lent.
 pub record Call : Type 0 where
@@ -38,12 +38,9 @@ visits o = o .reading .visits
 abbrev pub grammar : Call → Grammar
 grammar c = grammarOf (c .table)
 
--- How the limited reading of 01 ends, and the visits made then.
+-- How the limited reading of 01 ends.
 abbrev pub run : Call → Run
 run c = read (grammar c) (c .line) (c .allowance)
-
-abbrev pub made : Call → State → ℕ
-made c s = c .allowance - s .left
 
 -- 01's formula for the working numbers.
 abbrev pub needed : Call → ℕ
@@ -51,7 +48,7 @@ needed c = workNeeded (c .allowance) (nodesOf (c .table)) (length (c .line))
 
 -- 01: "Codes 1 to 10 return zeros else and change nothing."
 abbrev pub away : Call → (code place : ℕ) → Outcome
-away c code place = record { reading = numbers code place 0 0 0; work = c .work; room = c .room }
+away c code place = turnedAway code place (c .work) (c .room)
 
 -- 01: "On READ and from 11 on, the first numbers of the working room, as many as the formula says, are zero and the rest as found"; "Only READ writes the room".
 abbrev pub ended : Call → (code place matched visits records : ℕ) → Outcome
@@ -77,9 +74,9 @@ pub data Ended (c : Call) (visits : ℕ) : Answer → Outcome → Type 0 where
 
 -- 01's rows 11 to 16 and 0: what a call gives whose line is read.
 pub data Came (c : Call) : Outcome → Type 0 where
-  effort : {p : ℕ} {s : State} → run c ≡ Run.effort p s → Came c (ended c EFFORT p 0 (made c s) 0)
-  deep : {p : ℕ} {s : State} → run c ≡ Run.deep p s → Came c (ended c DEEP p 0 (made c s) 0)
-  done : {r : Answer} {s : State} {o : Outcome} → run c ≡ Run.done r s → Ended c (made c s) r o → Came c o
+  effort : {p : ℕ} {s : State} → run c ≡ Run.effort p s → Came c (ended c EFFORT p 0 (made (c .allowance) s) 0)
+  deep : {p : ℕ} {s : State} → run c ≡ Run.deep p s → Came c (ended c DEEP p 0 (made (c .allowance) s) 0)
+  done : {r : Answer} {s : State} {o : Outcome} → run c ≡ Run.done r s → Ended c (made (c .allowance) s) r o → Came c o
 
 -- No condition of the first ten rows holds: the call is not turned away before the line is read.
 pub record Taken (c : Call) : Type 0 where
@@ -126,15 +123,11 @@ pub record Demand2 (c : Call) (o : Outcome) : Type 0 where
   -- 01, "Free grammars.": the visits of the reading that keeps answers, whatever number is to spare.
   pub kept : Free (grammar c) → (spare : ℕ) → (s : State) × (s .left ≡ spare) × (readBy (grammar c) (c .line) true (visits o + spare) ≡ Run.done answer s)
 
--- 2 x N x (L + 1) + 1, for N nodes and a line of L bytes.
-abbrev pub bound : Call → ℕ
-bound c = 2 * nodesOf (c .table) * (length (c .line) + 1) + 1
-
 -- Demand 3, of a call that is not turned away, with such a sheet and allowance: "For a grammar that 01's report calls free of left recursion, with N nodes, a line of L bytes,
 -- an allowance of at least 2 x N x (L + 1) + 1 and the working room 01 names: never refused for effort, visits at most 2 x N x (L + 1) + 1, and unless too deep, match, failure
 -- and tree are those of the plain rules." The visits are those of demand 2.
 pub record Demand3 (c : Call) (o : Outcome) : Type 0 where
   pub never : code o ≢ EFFORT
-  pub few : visits o ≤ bound c
+  pub few : visits o ≤ bound (grammar c) (c .line)
   pub plain : code o ≢ DEEP
       → (r : Answer) × Plain (grammar c) (c .line) (rule 0) 0 r × ((q : Answer) → Plain (grammar c) (c .line) (rule 0) 0 q → q ≡ r) × Ended c (visits o) r o

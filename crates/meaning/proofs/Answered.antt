@@ -13,6 +13,7 @@ use Rattle.meaning.specs.Grammar.{Node, empty, range, rule, seq, choice,
 use Rattle.meaning.specs.Rules.{Goal, at, inc, Bounded, Reads}
 use Rattle.meaning.specs.Rules as R
 use Rattle.meaning.proofs.Answers.{found}
+use Rattle.meaning.proofs.Conserve.{as-reading}
 use Rattle.meaning.proofs.Notes.{look-same}
 use Rattle.meaning.proofs.OneBounded.{rep-matches}
 use Rattle.meaning.proofs.Pigeon.{Absent, In, Distinct, seek, at-most}
@@ -180,15 +181,10 @@ module _ (g : Grammar) (line : List ℕ) where
         used good x inside (λ y lt ly m h i li. lemma-2 m h i y li ly) l held a
         (λ q r s. lemma-2 (noted a x r l) (held-more g line l a x r s held) (rootOf g a) x (good .roots a la) inside) (look l a x) refl
 
-  reads : {r : Answer} {n : ℕ} → Bounded g line [] (at (rule 0)) 0 r n → (m : ℕ) × Reads g line r m
-  reads (R.lvar1 {n = n} {m = m} q h k) = (n + m, record { rules = R.lvar1 q h k })
-  reads (R.lvar2 {n = n} q h) = (n, record { rules = R.lvar2 q h })
-  reads (R.lvar3 q) = (0, record { rules = R.lvar3 q })
-
   -- Every line has its reading by the bounded rules.
   pub answered : Closed g → 0 < length (g .roots) → (r : Answer) × (n : ℕ) × Reads g line r n
   unfolding look
   answered good rules =
       let h = use-answers good [] (λ b w q e. found refl e) 0 0 rules (omega arith) in
-      let k = reads (h .rules) in
+      let k = as-reading g line (h .rules) in
       (h .answer, k .0, k .1)

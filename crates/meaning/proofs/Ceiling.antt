@@ -2,7 +2,7 @@
 -- Each pair (node, position) is worked at most once and visits at most twice: a pair that is open is not met again, since what it visits has a lower derivation.
 use mathlib.Core.Path.{_≡_, refl, subst}
 use mathlib.Core.Logic.{_⊎_, inl, inr}
-use Prim.Native.Nat.{ℕ, zero, suc, _+_, _-_, _*_, _<_, _≤_}
+use Prim.Native.Nat.{ℕ, zero, suc, _+_, _*_, _<_, _≤_}
 use mathlib.Core.Bool.{true}
 use mathlib.Core.List.{List, [], _∷_, _++_}
 use mathlib.Core.Option.{Option, none, some}
@@ -10,7 +10,8 @@ use lib.ListN.{length, length-append}
 use native.Mathlib.Omega.{arith}
 use Rattle.meaning.specs.Grammar.{Node, rule, Grammar, node, rootOf, root, Below, Closed, Answer, Note, noted, look}
 use Rattle.meaning.specs.Rules.{Plain, var}
-use Rattle.meaning.specs.Reading.{State, Visit, deep, wrapped, keep, useRule, recall, visited, visit, readBy}
+use Rattle.meaning.specs.Report.{bound}
+use Rattle.meaning.specs.Reading.{State, made, Visit, deep, wrapped, keep, useRule, recall, visited, visit, readBy}
 use Rattle.meaning.proofs.Answers.{found}
 use Rattle.meaning.proofs.OnePlain.{height, det}
 use Rattle.meaning.proofs.Runs.{Ends, ends-after, ends-map, ends-both, ends-counted}
@@ -29,9 +30,6 @@ module _ (g : Grammar) (line : List ℕ) where
 
   abbrev pub pairs : ℕ
   pairs = length (g .nodes) * suc (length line)
-
-  abbrev pub bound : ℕ
-  bound = 2 * length (g .nodes) * suc (length line) + 1
 
   -- What holds while the pairs of o are open: no pair is open twice, or both open and kept, or kept twice.
   record Inv (o : List ℕ) (s : State) : Type 0 where
@@ -225,9 +223,9 @@ module _ (g : Grammar) (line : List ℕ) where
           (λ t h. let z = h rule-0 u w in omega arith)
           (λ r t h. let k = h rule-0 u w in let z = k .count in let z′ = room [] t (k .inv) in omega arith)
 
-      pub visits-at-most : Ends (λ t. allowance - t .left ≤ bound) (λ t. allowance - t .left ≤ bound) (λ r t. allowance - t .left ≤ bound) (readBy g line true allowance)
+      pub visits-at-most : Ends (λ t. made allowance t ≤ bound g line) (λ t. made allowance t ≤ bound g line) (λ r t. made allowance t ≤ bound g line) (readBy g line true allowance)
       visits-at-most = ends-map (readBy g line true allowance) ceiling (λ t h. omega arith) (λ t h. omega arith) (λ r t h. omega arith)
 
       -- EFFORT is given with no visit left, so after more visits than there can be.
-      pub never-effort : bound ≤ allowance → Ends (λ t. ⊥) (λ t. Unit {0}) (λ r t. Unit {0}) (readBy g line true allowance)
+      pub never-effort : bound g line ≤ allowance → Ends (λ t. ⊥) (λ t. Unit {0}) (λ r t. Unit {0}) (readBy g line true allowance)
       never-effort le = ends-both (readBy g line true allowance) ceiling (effort-left g line true allowance) (λ t h k. omega arith) (λ t h k. tt) (λ r t h k. tt)

@@ -1,16 +1,16 @@
 -- What can be relied on: how a reading ends, and that its answer is the one of document 003's rules. Nothing new is shown here. With the mode given and not
 -- chosen by isFree the same stands, over readBy, in Sound and Complete (nothing kept), in Kept and Ceiling (answers kept) and in Effort (either).
 use mathlib.Core.Path.{_≡_, refl, subst}
-use Prim.Native.Nat.{ℕ, _+_, _-_, _<_, _≤_}
+use Prim.Native.Nat.{ℕ, _+_, _<_, _≤_}
 use mathlib.Core.Bool.{Bool, true, false}
 use mathlib.Core.List.{List, []}
 use lib.ListN.{length}
 use native.Mathlib.Omega.{arith}
 use Rattle.meaning.specs.Grammar.{Node, rule, Grammar, rootOf, Closed, Trees, Answer, ok, wrap, look}
 use Rattle.meaning.specs.Rules.{at, Plain, var, Bounded, Reads}
-use Rattle.meaning.specs.Report.{MayBeEmpty, Free}
+use Rattle.meaning.specs.Report.{MayBeEmpty, Free, bound}
 use Rattle.meaning.specs.Decide.{isFree}
-use Rattle.meaning.specs.Reading.{State, readBy, read}
+use Rattle.meaning.specs.Reading.{made, readBy, read}
 use Rattle.meaning.proofs.Answers.{Same, found}
 use Rattle.meaning.proofs.Runs.{Ends, All, ends-map, ends-both, all-map}
 use Rattle.meaning.proofs.OnePlain.{one-answer}
@@ -23,12 +23,8 @@ use Rattle.meaning.proofs.Spans.{spans}
 use Rattle.meaning.proofs.Answered as A
 use Rattle.meaning.proofs.Free.{span, total}
 use Rattle.meaning.proofs.Effort.{effort-left}
-use Rattle.meaning.proofs.Ceiling.{bound, visits-at-most, never-effort}
+use Rattle.meaning.proofs.Ceiling.{visits-at-most, never-effort}
 use Rattle.meaning.proofs.Decided.{free-iff}
-
--- The visits made, of those allowed.
-abbrev pub made : ℕ → State → ℕ
-made allowance t = allowance - t .left
 
 module _ (g : Grammar) (line : List ℕ) where
   -- The bounded rules answer r in so many visits, and give no other answer or count: that two readings agree is OneBounded.one-reading.

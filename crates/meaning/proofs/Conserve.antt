@@ -73,7 +73,8 @@ module _ (g : Grammar) (line : List ℕ) where
   unfolding look
   lemma-1 d = conserve d [] (λ a w q o c k. found refl o)
 
-  as-reading : {r : Answer} {n : ℕ} → Bounded g line [] (at (rule 0)) 0 r n → (m : ℕ) × Reads g line r m
+  -- A use of rule 0 with nothing live makes a visit at least, and is a reading with the others.
+  pub as-reading : {r : Answer} {n : ℕ} → Bounded g line [] (at (rule 0)) 0 r n → (m : ℕ) × Reads g line r m
   as-reading (R.lvar1 o h k) = (_, record { rules = R.lvar1 o h k })
   as-reading (R.lvar2 o h) = (_, record { rules = R.lvar2 o h })
   as-reading (R.lvar3 o) = (0, record { rules = R.lvar3 o })

@@ -5,6 +5,7 @@ use Prim.Native.Nat.{ℕ, zero, suc, _<_, _≤_}
 use mathlib.Core.Bool.{Bool, true, false, _&&_, _||_, cond, and-eq-true-iff, or-false, false≢true}
 use mathlib.Core.Bool as B
 use mathlib.Core.List.{List, [], _∷_, map}
+use mathlib.Mathlib.Data.Bool.Basic.{or-inl, or-inr, not-iff-not}
 use lib.ListN.{length, getD, List·getD-map}
 use lib.Dec.{eqb}
 use borrow.Author.Tests.{eqb-true, eqb-false, not-true}
@@ -14,7 +15,8 @@ use Rattle.meaning.specs.Report.{MayBeEmpty, of-empty, of-not, of-rep, o
 use Rattle.meaning.specs.Report.{Starts, by-not, by-rep, by-choice, by-other, by-first, by-second, by-rule}
 use Rattle.meaning.specs.Decide.{either, only, through, throughAll, useOf, used, emptyBy, emptyNodes, emptyRules, startsOf, ledTo, reach, noneOf, isFree}
 use Rattle.meaning.proofs.Chains.{then, round}
-use Rattle.meaning.proofs.Settle.{or-split, or-first, or-second, marked, all-marked}
+use Rattle.meaning.proofs.Choose.{or-split}
+use Rattle.meaning.proofs.Settle.{marked, all-marked}
 use Rattle.meaning.proofs.Through.{from-start, joins, all-chains}
 
 -- ---- marks
@@ -29,10 +31,10 @@ in-either : (xs ys : List Bool) (j : ℕ) → getD (either xs ys) j false ≡ tr
 in-either xs ys j e = or-split (getD xs j false) (getD ys j false) (sym (either-at xs ys j) ∙ e)
 
 either-first : (xs ys : List Bool) (j : ℕ) → getD xs j false ≡ true → getD (either xs ys) j false ≡ true
-either-first xs ys j e = either-at xs ys j ∙ or-first _ _ e
+either-first xs ys j e = either-at xs ys j ∙ or-inl _ _ e
 
 either-second : (xs ys : List Bool) (j : ℕ) → getD ys j false ≡ true → getD (either xs ys) j false ≡ true
-either-second xs ys j e = either-at xs ys j ∙ or-second (getD xs j false) _ e
+either-second xs ys j e = either-at xs ys j ∙ or-inr (getD xs j false) _ e
 
 only-self : (i : ℕ) → getD (only i) i false ≡ true
 only-self zero = refl
@@ -172,8 +174,8 @@ module _ (g : Grammar) where
     empty-complete (of-rule {a = a} h) i le v = empty-at (rootOf g a) (good .roots a v) (empty-complete h)
     empty-complete (of-seq {a = a} {b = b} h k) i le v =
         and-eq-true-iff _ _ .1 (empty-at a (omega arith) (empty-complete h), empty-at b (omega arith) (empty-complete k))
-    empty-complete (of-first {a = a} h) i le v = or-first _ _ (empty-at a (omega arith) (empty-complete h))
-    empty-complete (of-second {a = a} {b = b} h) i le v = or-second (getD es a false) _ (empty-at b (omega arith) (empty-complete h))
+    empty-complete (of-first {a = a} h) i le v = or-inl _ _ (empty-at a (omega arith) (empty-complete h))
+    empty-complete (of-second {a = a} {b = b} h) i le v = or-inr (getD es a false) _ (empty-at b (omega arith) (empty-complete h))
 
     -- The marks of the report.
     pub empty-iff : (a : ℕ) → a < length (g .roots) → (getD (emptyRules g) a false ≡ true) ↔ MayBeEmpty g (root g a)
@@ -225,10 +227,6 @@ module _ (g : Grammar) where
           use-used (g .nodes) (getD (throughAll n rows) (rootOf g a) []) a (t .number) (t .way) (t .is),
     )
 
-    denied : (t : Bool) → (t ≡ true → ⊥) → B.not t ≡ true
-    denied true h = absurd (h refl)
-    denied false h = refl
-
     -- The first k rules.
     abbrev NoneOf : ℕ → Type 0
     NoneOf k = (a : ℕ) → a < k → LeftRecursive g a → ⊥
@@ -246,7 +244,7 @@ module _ (g : Grammar) where
     none-complete : (k : ℕ) → k ≤ length (g .roots) → NoneOf k → noneOf g k ≡ true
     none-complete zero le h = refl
     none-complete (suc k) le h =
-        and-eq-true-iff _ _ .1 (denied _ (λ e. h k (omega arith) (recursive-iff k le .0 e)), none-complete k (omega arith) (λ a la. h a (omega arith)))
+        and-eq-true-iff _ _ .1 (not-iff-not .1 (λ e. h k (omega arith) (recursive-iff k le .0 e)), none-complete k (omega arith) (λ a la. h a (omega arith)))
 
     pub free-iff : (isFree g ≡ true) ↔ Free g
     unfolding isFree

@@ -1,3 +1,5 @@
+pub mod Choose
+pub mod Sets
 pub mod Chains
 pub mod Answers
 pub mod Runs

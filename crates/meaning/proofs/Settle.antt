@@ -4,22 +4,12 @@ use mathlib.Core.Logic.{_⊎_, inl, inr, ⊎-elim}
 use Prim.Native.Nat.{ℕ, zero, suc, _<_, _≤_}
 use mathlib.Core.Bool.{Bool, true, false, _||_, false≢true}
 use mathlib.Core.List.{List, [], _∷_}
+use mathlib.Mathlib.Data.Bool.Basic.{or-inr}
 use lib.ListN.{length, getD, replicate, length-replicate}
 use native.Mathlib.Omega.{arith}
 use Rattle.meaning.specs.Grammar.{Node, empty}
 use Rattle.meaning.specs.Decide.{mark, rounds, settled}
-
-pub or-split : (a b : Bool) → (a || b) ≡ true → (a ≡ true) ⊎ (b ≡ true)
-or-split true b e = inl refl
-or-split false b e = inr e
-
-pub or-first : (a b : Bool) → a ≡ true → (a || b) ≡ true
-or-first true b e = refl
-or-first false b e = absurd (false≢true e)
-
-pub or-second : (a b : Bool) → b ≡ true → (a || b) ≡ true
-or-second true b e = refl
-or-second false b e = e
+use Rattle.meaning.proofs.Choose.{or-split}
 
 unmarked : List Bool → ℕ
 unmarked [] = 0
@@ -72,7 +62,7 @@ module _ (test : Node → Bool) where
   mark-in : (ps : List Node) (ms : List Bool) (i : ℕ) → i < length ps → i < length ms → test (getD ps i empty) ≡ true → getD (mark test ps ms) i false ≡ true
   mark-in ps [] i lp lm e = absurd (omega arith)
   mark-in [] (m ∷ ms) i lp lm e = absurd (omega arith)
-  mark-in (p ∷ ps) (m ∷ ms) zero lp lm e = or-second m (test p) e
+  mark-in (p ∷ ps) (m ∷ ms) zero lp lm e = or-inr m (test p) e
   mark-in (p ∷ ps) (m ∷ ms) (suc i) lp lm e = mark-in ps ms i (omega arith) (omega arith) e
 
 module _ (ps : List Node) (test : List Bool → Node → Bool) where

@@ -3,10 +3,11 @@ use mathlib.Core.Path.{_≡_, refl, sym, _∙_}
 use mathlib.Core.Logic.{_≢_, _⊎_, inl, inr, ⊎-elim}
 use Prim.Native.Nat.{ℕ, zero, suc, _<_}
 use mathlib.Core.Bool.{Bool, true, false, _&&_, _||_, and-eq-true-iff}
+use mathlib.Mathlib.Data.Bool.Basic.{or-inl, or-inr}
 use lib.Dec.{eqb}
 use borrow.Author.Tests.{eqb-true, eqb-false}
 use native.Mathlib.Omega.{arith}
-use Rattle.meaning.proofs.Settle.{or-split, or-first, or-second}
+use Rattle.meaning.proofs.Choose.{or-split}
 
 -- After k turns, through each number below k, i leads to j; turn k goes through k.
 module _ (leads : ℕ → ℕ → ℕ → Bool) (turn : (k i j : ℕ) → leads (suc k) i j ≡ (leads k i j || (leads k i k && leads k k j))) where
@@ -17,10 +18,10 @@ module _ (leads : ℕ → ℕ → ℕ → Bool) (turn : (k i j : ℕ) → leads 
   split k i j w = ⊎-elim (λ e. inl e) (λ e. inr (and-eq-true-iff (leads k i k) (leads k k j) .0 e)) (or-split (leads k i j) _ (sym (turn k i j) ∙ w))
 
   keep : (k i j : ℕ) → Way k i j → Way (suc k) i j
-  keep k i j w = turn k i j ∙ or-first (leads k i j) _ w
+  keep k i j w = turn k i j ∙ or-inl (leads k i j) _ w
 
   add : (k i j : ℕ) → Way k i k → Way k k j → Way (suc k) i j
-  add k i j v w = turn k i j ∙ or-second (leads k i j) _ (and-eq-true-iff (leads k i k) _ .1 (v, w))
+  add k i j v w = turn k i j ∙ or-inr (leads k i j) _ (and-eq-true-iff (leads k i k) _ .1 (v, w))
 
   pub from-start : (n i j : ℕ) → Way 0 i j → Way n i j
   from-start zero i j w = w

@@ -1,5 +1,5 @@
 -- 01, "How a line is read": the limited reading, visit by visit.
-use Prim.Native.Nat.{ℕ, zero, suc}
+use Prim.Native.Nat.{ℕ, zero, suc, _-_}
 use mathlib.Core.Bool.{Bool, true, false}
 use mathlib.Core.List.{List, []}
 use mathlib.Core.Option.{Option, none, some}
@@ -11,6 +11,10 @@ use Rattle.meaning.specs.Decide.{isFree}
 pub record State : Type 0 where
   pub left : ℕ
   pub kept : List Note
+
+-- The visits made, of those allowed.
+abbrev pub made : ℕ → State → ℕ
+made allowance s = allowance - s .left
 
 -- How a visit ends: refused for effort or depth, with "position of the refused visit"; or done with its answer.
 pub data Run : Type 0 where

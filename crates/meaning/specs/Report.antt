@@ -1,5 +1,6 @@
 -- 01, "The report": which nodes may be empty, what a node starts with, and which grammars are free.
-use Prim.Native.Nat.{ℕ, _<_}
+use Prim.Native.Nat.{ℕ, _+_, _*_, _<_}
+use mathlib.Core.List.{List}
 use lib.ListN.{length}
 use Rattle.meaning.specs.Grammar.{Node, empty, rule, seq, choice, not, rep, Grammar, node, root}
 
@@ -37,3 +38,7 @@ pub record LeftRecursive (g : Grammar) (a : ℕ) : Type 0 where
 -- 01: "A grammar is free if no rule in its table is left-recursive."
 pub record Free (g : Grammar) : Type 0 where
   pub none : (a : ℕ) → a < length (g .roots) → LeftRecursive g a → ⊥
+
+-- The visits that are enough for any line of a free grammar: 2 x N x (L + 1) + 1, for N nodes and a line of L bytes.
+abbrev pub bound : Grammar → List ℕ → ℕ
+bound g line = 2 * length (g .nodes) * (length line + 1) + 1

@@ -2,6 +2,7 @@
 use mathlib.Core.Path.{_≡_, refl, sym, ap, ap₂, _∙_}
 use mathlib.Core.Bool.{Bool, true, false, _&&_, or-true, and-eq-true-iff, false≢true}
 use mathlib.Core.Logic.{⊎-elim}
+use mathlib.Mathlib.Data.Bool.Basic.{or-inl, or-inr}
 use Prim.Native.Nat.{ℕ, zero, suc, _≤_, _<_}
 use native.Mathlib.Omega.{arith}
 use borrow.Author.Tests.{ltb-true, lt-ltb}
@@ -10,7 +11,7 @@ use lib.ListN.{length}
 use Rattle.bits.specs.Mask.{has}
 use Rattle.meaning.specs.Grammar.{Node, empty, range, rule, seq, choice, not, rep, Grammar, node, rootOf, root, Below, Closed}
 use Rattle.meaning.specs.Report.{MayBeEmpty, of-empty, of-not, of-rep, of-rule, of-seq, of-first, of-second}
-use Rattle.meaning.proofs.Settle.{or-split, or-first, or-second}
+use Rattle.meaning.proofs.Choose.{or-split}
 use Rattle.report.specs.declared.Facts.{Facts}
 use Rattle.report.specs.Pass.{inRow, oneOf, factsOf, Gathered}
 
@@ -88,8 +89,8 @@ module _ (g : Grammar) (closed : Closed g) (known : ℕ) (f : ℕ → Facts)
     found of-rep b = refl
     found (of-rule {a = a} d) b = known-complete a b (at (rootOf g a) (closed .roots a b) (found d))
     found (of-seq {a = a} {b = c} d e) b = row-empty (f a) (f c) ∙ ap₂ _&&_ (at a (b .0) (found d)) (at c (b .1) (found e))
-    found (of-first {a = a} {b = c} d) b = or-first (f a .empty) (f c .empty) (at a (b .0) (found d))
-    found (of-second {a = a} {b = c} d) b = or-second (f a .empty) (f c .empty) (at c (b .1) (found d))
+    found (of-first {a = a} {b = c} d) b = or-inl (f a .empty) (f c .empty) (at a (b .0) (found d))
+    found (of-second {a = a} {b = c} d) b = or-inr (f a .empty) (f c .empty) (at c (b .1) (found d))
 
     pub empty-found : (i : ℕ) → i < length (g .nodes) → MayBeEmpty g (node g i) → f i .empty ≡ true
     empty-found i h d = at i h (found d)

@@ -2,32 +2,32 @@
 use mathlib.Core.Path.{_≡_, refl, sym, ap, _∙_}
 use mathlib.Core.Bool.{Bool, true, false, _&&_, _||_, or-true, or-false, and-eq-true-iff, false≢true}
 use mathlib.Core.Logic.{⊎-elim}
+use mathlib.Mathlib.Data.Bool.Basic.{or-inl, or-inr}
 use Prim.Native.Nat.{ℕ, zero, suc, _^_, _≤_, _<_}
 use native.Mathlib.Omega.{arith}
 use borrow.Author.Tests.{ltb-true, lt-ltb, eqb-true, eq-eqb}
 use lib.Dec.{ltb}
 use lib.ListN.{length}
 use Rattle.bits.specs.Mask.{has}
+use Rattle.bits.proofs.Digits.{has-or}
 use Rattle.bits.proofs.Laws.{has-none}
 use Rattle.meaning.specs.Grammar.{Node, empty, range, rule, seq, choice, not, rep, Grammar, node, rootOf, root, Below, Closed}
 use Rattle.meaning.specs.Report.{MayBeEmpty, Starts, by-not, by-rep, by-choice, by-other, by-first, by-second, by-rule, Leads, here, on, LeftRecursive}
 use Rattle.meaning.proofs.Chains.{first, then, round}
-use Rattle.meaning.proofs.Settle.{or-split, or-first, or-second}
+use Rattle.meaning.proofs.Choose.{by-test, or-split}
 use Rattle.meaning.proofs.Through.{from-start, joins, all-chains}
 use Rattle.report.specs.declared.Facts.{Facts}
 use Rattle.report.specs.Pass.{inRow, oneOf, factsOf, Gathered, led, Settled}
 use Rattle.report.specs.Report.{LeftRules}
-use Rattle.report.proofs.Sets.{has-union, has-only}
+use Rattle.report.proofs.Sets.{has-only}
 use Rattle.report.proofs.Empties.{empty-sound, empty-found, inside}
 
 -- 01: "its first child, and also its second if the first may be empty (sequence)".
 row-starts : (x y : Facts) (b : ℕ) → has (inRow x y .starts) b ≡ (has (x .starts) b || x .empty && has (y .starts) b)
 unfolding inRow
-row-starts x y b = by (x .empty) refl
-  where
-    by : (e : Bool) → x .empty ≡ e → has (inRow x y .starts) b ≡ (has (x .starts) b || x .empty && has (y .starts) b)
-    by true e = rw e (has-union (x .starts) (y .starts) b)
-    by false e = rw e (sym (or-false (has (x .starts) b)))
+row-starts x y b =
+    by-test (λ (z : Facts). has (z .starts) b ≡ (has (x .starts) b || x .empty && has (y .starts) b)) (x .empty) _ _
+    (λ e. rw e (has-or (x .starts) (y .starts) b)) (λ e. rw e (sym (or-false (has (x .starts) b))))
 
 module _ (g : Grammar) (closed : Closed g) (few-rules : length (g .roots) ≤ 64) (f : ℕ → Facts) (s : Settled g f) where
   may-be-empty : (i : ℕ) → i < length (g .nodes) → f i .empty ≡ true → MayBeEmpty g (node g i)
@@ -57,7 +57,7 @@ module _ (g : Grammar) (closed : Closed g) (few-rules : length (g .roots) ≤ 64
       (or-split (has (f a .starts) b) (f a .empty && has (f c .starts) b) (sym (row-starts (f a) (f c) b) ∙ e))
   node-leads i few below (choice a c) h b e =
       ⊎-elim (λ u. before by-choice (below a (h .0) b u)) (λ u. before by-other (below c (h .1) b u))
-      (or-split (has (f a .starts) b) (has (f c .starts) b) (sym (has-union (f a .starts) (f c .starts) b) ∙ e))
+      (or-split (has (f a .starts) b) (has (f c .starts) b) (sym (has-or (f a .starts) (f c .starts) b) ∙ e))
   node-leads i few below (not a) h b e = before by-not (below a h b e)
   node-leads i few below (rep a) h b e = before by-rep (below a h b e)
 
@@ -112,11 +112,11 @@ module _ (g : Grammar) (closed : Closed g) (few-rules : length (g .roots) ≤ 64
       seen-next (by-not {a = i}) seen = child i (seen .there) (seen .starts)
       seen-next (by-rep {a = i}) seen = child i (seen .there) (seen .starts)
       seen-next (by-choice {a = i} {b = j}) seen =
-          child i (seen .there .0) (λ b e. seen .starts b (has-union (f i .starts) (f j .starts) b ∙ or-first (has (f i .starts) b) _ e))
+          child i (seen .there .0) (λ b e. seen .starts b (has-or (f i .starts) (f j .starts) b ∙ or-inl (has (f i .starts) b) _ e))
       seen-next (by-other {a = i} {b = j}) seen =
-          child j (seen .there .1) (λ b e. seen .starts b (has-union (f i .starts) (f j .starts) b ∙ or-second (has (f i .starts) b) _ e))
+          child j (seen .there .1) (λ b e. seen .starts b (has-or (f i .starts) (f j .starts) b ∙ or-inr (has (f i .starts) b) _ e))
       seen-next (by-first {a = i} {b = j}) seen =
-          child i (seen .there .0) (λ b e. seen .starts b (row-starts (f i) (f j) b ∙ or-first (has (f i .starts) b) _ e))
+          child i (seen .there .0) (λ b e. seen .starts b (row-starts (f i) (f j) b ∙ or-inl (has (f i .starts) b) _ e))
       seen-next (by-second {a = i} {b = j} d) seen =
           child j (seen .there .1)
           (λ b e. seen .starts b (row-starts (f i) (f j) b ∙ rw (known-empty i (seen .there .0) d, e) (or-true (has (f i .starts) b))))

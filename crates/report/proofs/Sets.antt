@@ -9,18 +9,16 @@ use native.Mathlib.Omega.{arith}
 use borrow.Author.Count.{below-more}
 use borrow.Author.Tests.{ltb-true, ltb-false, lt-ltb, le-ltb, eqb-true, eqb-false}
 use lib.Dec.{eqb, ltb}
-use lib.Bits.{bitOr, or-zero-l, or-zero-r}
+use lib.Bits.{or-zero-l, or-zero-r}
 use lib.ListN.{length, getD, set}
 use lib.Seq.{getD-set-same, getD-set-other}
 use Rattle.bits.specs.Mask.{has}
-use Rattle.bits.proofs.Digits.{joined, added}
+use Rattle.bits.proofs.Digits.{has-or, added}
 use Rattle.bits.proofs.Laws.{has-none}
+use Rattle.meaning.proofs.Choose.{by-test}
 use Rattle.report.specs.Pass.{only, Gathered, inSet, widened, led}
 
 -- ---- Bits.
-pub has-union : (x y b : ℕ) → has (bitOr x y) b ≡ (has x b || has y b)
-has-union x y = joined x y .bits
-
 pub has-only : (a b : ℕ) → a < 64 → has (only a) b ≡ eqb b a
 has-only a b h = rw or-zero-l at (added 0 a h .bits b) ∙ ap (λ (x : Bool). x || eqb b a) (has-none b)
 
@@ -65,11 +63,8 @@ module _ (test : ℕ → Bool) (base : ℕ) where
 -- ---- The closure.
 has-widened : (row k set b : ℕ) → has (widened row k set) b ≡ (has set b || has set k && has row b)
 unfolding widened
-has-widened row k set b = by (has set k) refl
-  where
-    by : (x : Bool) → has set k ≡ x → has (widened row k set) b ≡ (has set b || has set k && has row b)
-    by true e = rw e (has-union set row b)
-    by false e = rw e (sym (or-false (has set b)))
+has-widened row k set b =
+    by-test (λ s. has s b ≡ (has set b || has set k && has row b)) (has set k) _ _ (λ e. rw e (has-or set row b)) (λ e. rw e (sym (or-false (has set b))))
 
 -- One turn more.
 pub turned : (first old new : List ℕ) (r k : ℕ) → k < r → ((a b : ℕ) → a < r → inSet old a b ≡ led (inSet first) k a b)
@@ -81,11 +76,7 @@ turned first old new r k k-there so-far wider a b h =
 -- A row with nothing in it widens nothing.
 pub widened-none : (k set : ℕ) → set ≡ widened 0 k set
 unfolding widened
-widened-none k set = by (has set k) refl
-  where
-    by : (x : Bool) → has set k ≡ x → set ≡ widened 0 k set
-    by true e = rw e (sym (or-zero-r set))
-    by false e = rw e
+widened-none k set = by-test (λ s. set ≡ s) (has set k) _ _ (λ e. sym (or-zero-r set)) (λ e. refl)
 
 -- ---- A list filled from the front.
 pub filled-next : (f : ℕ → ℕ) (w : List ℕ) (k v : ℕ) → k < length w → ((j : ℕ) → j < k → getD w j 0 ≡ f j) → v ≡ f k

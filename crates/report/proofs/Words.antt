@@ -4,50 +4,47 @@ use mathlib.Core.Bool.{Bool, true, false}
 use mathlib.Core.List.{List}
 use mathlib.Core.Logic.{_≢_, ⊎-elim}
 use Prim.Native.Nat.{ℕ, zero, suc, _+_, _*_, _/_, _%_, _^_, _≤_, _<_}
-use native.Mathlib.Nat.{eq-or-lt-of-le}
+use native.Mathlib.Nat.{add-zero, eq-or-lt-of-le}
 use native.Mathlib.Numerals.{add-one}
 use native.Mathlib.Omega.{arith}
 use borrow.Author.Tests.{ltb-true, ltb-false}
 use lib.Dec.{ltb}
-use lib.ListN.{length, getD, set, length-set}
-use lib.Seq.{getD-set-same, getD-set-other, ext-getD}
+use lib.ListN.{length, getD}
+use lib.Seq.{length-sets, ext-getD}
 use Rattle.bits.specs.Mask.{one}
 use Rattle.bits.proofs.Digits.{is-one}
 use Rattle.bits.proofs.Laws.{halves}
 use Rattle.meaning.specs.Grammar.{Node, empty, range, rule, seq, choice, not, rep, Grammar, node, Below, Closed}
+use Rattle.meaning.proofs.Sets.{sets-below, sets-above, sets-at}
 use Rattle.report.specs.declared.Facts.{Facts}
-use Rattle.report.specs.Pass.{facts, inRow, oneOf, factsOf, factsAt, put, passed}
+use Rattle.report.specs.Pass.{facts, inRow, oneOf, factsOf, factsAt, threeOf, put, passed}
 
 -- ---- One node's three numbers.
 module _ (w : List ℕ) (i : ℕ) (x : Facts) where
   put-length : length (put w i x) ≡ length w
   unfolding put
-  put-length = simp length-set
+  put-length = length-sets w (3 * i) (threeOf x)
 
-  put-other : (k : ℕ) → k ≢ 3 * i → k ≢ 3 * i + 1 → k ≢ 3 * i + 2 → getD (put w i x) k 0 ≡ getD w k 0
+  put-below : (k : ℕ) → k < 3 * i → getD (put w i x) k 0 ≡ getD w k 0
   unfolding put
-  put-other k p q r = simp getD-set-other
+  put-below k h = sets-below (threeOf x) w (3 * i) k h
+
+  put-above : (k : ℕ) → 3 * suc i ≤ k → getD (put w i x) k 0 ≡ getD w k 0
+  unfolding put
+  put-above k h = sets-above (threeOf x) w (3 * i) k (omega arith)
 
   module _ (room : 3 * i + 2 < length w) where
     put-lower : getD (put w i x) (3 * i) 0 ≡ x .starts % 2 ^ 32
     unfolding put
-    put-lower =
-        let p : 3 * i ≢ 3 * i + 1 = omega arith in
-        let q : 3 * i ≢ 3 * i + 2 = omega arith in
-        simp getD-set-other (getD-set-same w (3 * i) _ 0 (omega arith))
+    put-lower = rw (add-zero (3 * i)) at (sets-at (threeOf x) w (3 * i) 0 (omega arith) (omega arith))
 
     put-higher : getD (put w i x) (3 * i + 1) 0 ≡ x .starts / 2 ^ 32
     unfolding put
-    put-higher =
-        let p : 3 * i + 1 ≢ 3 * i + 2 = omega arith in
-        let h : 3 * i + 1 < length (set w (3 * i) (x .starts % 2 ^ 32)) = simp length-set (omega arith) in
-        rw (getD-set-other, getD-set-same)
+    put-higher = sets-at (threeOf x) w (3 * i) 1 (omega arith) (omega arith)
 
     put-flag : getD (put w i x) (3 * i + 2) 0 ≡ one (x .empty)
     unfolding put
-    put-flag =
-        let h : 3 * i + 2 < length (set (set w (3 * i) (x .starts % 2 ^ 32)) (3 * i + 1) (x .starts / 2 ^ 32)) = simp length-set (omega arith) in
-        rw getD-set-same
+    put-flag = sets-at (threeOf x) w (3 * i) 2 (omega arith) (omega arith)
 
 facts-put : (w : List ℕ) (i : ℕ) (x : Facts) → 3 * i + 2 < length w → factsAt (put w i x) i ≡ x
 unfolding factsAt
@@ -62,7 +59,7 @@ same-facts v w j same = rw (same (3 * j) (omega arith), same (3 * j + 1) (omega 
 facts-kept : (w : List ℕ) (i : ℕ) (x : Facts) (j : ℕ) → j < i → factsAt (put w i x) j ≡ factsAt w j
 facts-kept w i x j h =
     same-facts (put w i x) w j
-    (λ k l. put-other w i x k (omega arith) (omega arith) (omega arith))
+    (λ k l. put-below w i x k (omega arith))
 
 -- ---- What is known of a node depends on the nodes below it alone.
 agree : (g : Grammar) (known : ℕ) (f h : ℕ → Facts) (i : ℕ) → ((k : ℕ) → k < i → f k ≡ h k) → (p : Node) → Below g i p → factsOf f known p ≡ factsOf h known p
@@ -86,7 +83,7 @@ module _ (g : Grammar) (known : ℕ) (w : List ℕ) where
   unfolding passed
   passed-rest zero k h = refl
   passed-rest (suc n) k h =
-      put-other (passed g known w n) n _ k (omega arith) (omega arith) (omega arith)
+      put-above (passed g known w n) n _ k h
       ∙ passed-rest n k (omega arith)
 
   -- One node more.
@@ -149,9 +146,9 @@ module _ (g : Grammar) (known : ℕ) (closed : Closed g) (v w : List ℕ) (same-
           let t : 3 * n + 2 < length q = omega (arith, passed-length g known w n) in
           by-node (λ k. getD (put p n x) k 0 ≡ getD (put q n y) k 0) n
           (λ k l.
-          put-other p n x k (omega arith) (omega arith) (omega arith)
+          put-below p n x k l
           ∙ ih k l
-          ∙ sym (put-other q n y k (omega arith) (omega arith) (omega arith)))
+          ∙ sym (put-below q n y k l))
           (put-lower p n x s ∙ ap (λ (z : Facts). z .starts % 2 ^ 32) e ∙ sym (put-lower q n y t))
           (put-higher p n x s ∙ ap (λ (z : Facts). z .starts / 2 ^ 32) e ∙ sym (put-higher q n y t))
           (put-flag p n x s ∙ ap (λ (z : Facts). one (z .empty)) e ∙ sym (put-flag q n y t))

@@ -1,11 +1,12 @@
 -- How the report is worked out: what the contracts of the code's own functions cite. Nobody need believe it; Report says what comes out.
 use mathlib.Core.Path.{_≡_}
 use mathlib.Core.Bool.{Bool, true, false, _&&_, _||_, cond}
-use mathlib.Core.List.{List}
+use mathlib.Core.List.{List, [], _∷_}
 use Prim.Native.Nat.{ℕ, zero, suc, _+_, _*_, _/_, _%_, _^_, _<_}
 use lib.Dec.{eqb, ltb}
 use lib.Bits.{bitOr}
-use lib.ListN.{length, getD, set}
+use lib.ListN.{length, getD}
+use lib.Seq.{sets}
 use Rattle.bits.specs.Mask.{has, one}
 use Rattle.meaning.specs.Grammar.{Node, empty, range, rule, seq, choice, not, rep, Grammar, node, rootOf}
 use Rattle.sheet.specs.Table.{nodesOf, grammarOf}
@@ -42,8 +43,11 @@ factsOf f known (rep a) = facts (f a .starts) true
 unfoldable pub factsAt : List ℕ → ℕ → Facts
 factsAt w i = facts (getD w (3 * i + 1) 0 * 2 ^ 32 + getD w (3 * i) 0) (eqb (getD w (3 * i + 2) 0) 1)
 
+abbrev pub threeOf : Facts → List ℕ
+threeOf x = x .starts % 2 ^ 32 ∷ x .starts / 2 ^ 32 ∷ one (x .empty) ∷ []
+
 unfoldable pub put : List ℕ → ℕ → Facts → List ℕ
-put w i x = set (set (set w (3 * i) (x .starts % 2 ^ 32)) (3 * i + 1) (x .starts / 2 ^ 32)) (3 * i + 2) (one (x .empty))
+put w i x = sets w (3 * i) (threeOf x)
 
 -- The working numbers after a pass over the first nodes.
 unfoldable pub passed : Grammar → (known : ℕ) → List ℕ → ℕ → List ℕ

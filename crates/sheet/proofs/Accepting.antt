@@ -1,13 +1,15 @@
 -- What the check's acceptance says of a table: it is well formed, and its grammar is closed.
 use mathlib.Core.Path.{_≡_, refl, sym, ap, subst, _∙_}
+use mathlib.Core.Logic.{⊎-elim}
 use mathlib.Core.List.{List}
-use Prim.Native.Nat.{ℕ, zero, suc, _+_, _*_, _≤_, _<_}
+use Prim.Native.Nat.{ℕ, zero, suc, _+_, _*_, _%_, _≤_, _<_}
+use native.Mathlib.Nat.{eq-or-lt-of-le}
 use native.Mathlib.Omega.{arith}
 use lib.ListN.{length, getD}
 use Rattle.meaning.specs.Grammar as grammar
 use Rattle.meaning.specs.Grammar.{Node, empty, range, rule, seq, choice, not, rep, Grammar, node, Below, Closed}
 use Rattle.sheet.specs.declared.Verdict.{Verdict}
-use Rattle.sheet.specs.Table.{nodesOf, mostNodes, rulesOf, mostRules, rootOf, nodeAt, formula, kindOf, aOf, bOf, WellFormed, decode, nodeOf, each, grammarOf}
+use Rattle.sheet.specs.Table.{nodesOf, mostNodes, rulesOf, mostRules, rootOf, nodeAt, formula, kindOf, fieldOf, aOf, bOf, WellFormed, decode, nodeOf, each, grammarOf}
 use Rattle.sheet.specs.Table.{Fits, is-empty, is-range, is-rule, is-sequence, is-choice, is-not, is-repetition}
 use Rattle.sheet.specs.Check.{READ, checkOf, Accepted}
 use Rattle.sheet.proofs.Exact.{accepted-iff}
@@ -30,8 +32,11 @@ fields-small (is-choice h l) r i = omega arith
 fields-small (is-not h) r i = omega arith
 fields-small (is-repetition h) r i = omega arith
 
-pub small-fields : (t : List ℕ) → Accepted t → (i : ℕ) → i < nodesOf t → (aOf t i < mostNodes) × (bOf t i < mostNodes)
-small-fields t accepted i h = let w = well-formed t accepted in fields-small (w .fields i h) (w .few-rules) (omega arith)
+pub small-field : (t : List ℕ) → Accepted t → (i at : ℕ) → i < nodesOf t → at % 2 ≡ 1 → at ≤ 3 → fieldOf t i at < mostNodes
+small-field t accepted i at h odd le =
+    let w = well-formed t accepted in
+    let small = fields-small (w .fields i h) (w .few-rules) (omega arith) in
+    ⊎-elim (λ (e : at ≡ 3). rw e (small .1)) (λ (l : at < 3). let e : at ≡ 1 = omega arith in rw e (small .0)) (eq-or-lt-of-le le)
 
 -- A node of an accepted table lies inside it.
 pub node-inside : (t : List ℕ) → Accepted t → (i : ℕ) → i < nodesOf t → nodeAt (rulesOf t) i + 5 ≤ length t

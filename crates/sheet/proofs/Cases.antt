@@ -1,13 +1,14 @@
 -- What a row of the check, a search for the first fault and the fault of a node come to, by cases.
 use mathlib.Core.Path.{_≡_, refl, sym, ap, _∙_}
 use mathlib.Core.Logic.{_↔_, _≢_, ⊎-elim}
-use mathlib.Core.Bool.{Bool, true, false, cond}
+use mathlib.Core.Bool.{Bool, true, false}
 use mathlib.Core.List.{List}
 use Prim.Native.Nat.{ℕ, zero, suc, _+_, _≤_, _<_}
 use native.Mathlib.Nat.{eq-or-lt-of-le}
 use native.Mathlib.Omega.{arith}
 use borrow.Author.Tests.{leb-true, leb-false, eqb-true, eqb-false, ne-eqb}
 use lib.Dec.{leb, eqb}
+use Rattle.meaning.proofs.Choose.{by-test}
 use Rattle.sheet.specs.declared.Verdict.{Verdict}
 use Rattle.sheet.specs.Table.{kindOf, Fits, NodeFits}
 use Rattle.sheet.specs.Check.{READ, KIND, FIELD, verdict, unless, _orElse_, firstFault, fieldsFit, faultOf, nodeFault}
@@ -26,13 +27,10 @@ pub search-cases : (P : Verdict → Type 0) (f : ℕ → ℕ) (i k : ℕ)
 unfolding firstFault
 search-cases P f i zero found none = none (λ j h l. absurd (omega arith))
 search-cases P f i (suc k) found none =
-    here (eqb (f i) READ) refl
-    (λ e. search-cases P f (suc i) k (λ j h l before. found j (omega arith) (omega arith) (none-from f i j e before))
+    by-test P (eqb (f i) READ) _ _
+    (λ q. let e = eqb-true _ _ q in search-cases P f (suc i) k (λ j h l before. found j (omega arith) (omega arith) (none-from f i j e before))
     (λ after. none (none-from f i (i + suc k) e (λ j h l. after j h (omega arith)))))
-  where
-    here : (b : Bool) → eqb (f i) READ ≡ b → (f i ≡ READ → P (firstFault f (suc i) k)) → P (cond b (firstFault f (suc i) k) (verdict (f i) i))
-    here true e on = on (eqb-true _ _ e)
-    here false e on = found i (omega arith) (omega arith) (λ l h m. absurd (omega arith)) (eqb-false _ _ e)
+    (λ q. found i (omega arith) (omega arith) (λ l h m. absurd (omega arith)) (eqb-false _ _ q))
 
 module _ (f : ℕ → ℕ) (n : ℕ) where
   pub search-none : ((j : ℕ) → j < n → f j ≡ READ) → firstFault f 0 n ≡ verdict READ 0
@@ -50,15 +48,10 @@ module _ (f : ℕ → ℕ) (n : ℕ) where
 
 fault-cases : (P : ℕ → Type 0) (r i kind a b : ℕ) → (Fits r i kind a b → P READ) → (6 < kind → P KIND) → (kind ≤ 6 → ¬ Fits r i kind a b → P FIELD) → P (faultOf r i kind a b)
 unfolding faultOf
-fault-cases P r i kind a b passed above against = of-kind (leb kind 6) refl
-  where
-    of-field : (b′ : Bool) → fieldsFit r i kind a b ≡ b′ → kind ≤ 6 → P (cond b′ READ FIELD)
-    of-field true e h = passed (fits-iff r i kind a b .0 e)
-    of-field false e h = against h (failed-iff (fits-iff r i kind a b) .0 e)
-
-    of-kind : (b′ : Bool) → leb kind 6 ≡ b′ → P (cond b′ (cond (fieldsFit r i kind a b) READ FIELD) KIND)
-    of-kind true e = of-field (fieldsFit r i kind a b) refl (leb-true _ _ e)
-    of-kind false e = above (leb-false _ _ e)
+fault-cases P r i kind a b passed above against =
+    by-test P (leb kind 6) _ _
+    (λ q. by-test P (fieldsFit r i kind a b) _ _ (λ p. passed (fits-iff r i kind a b .0 p)) (λ p. against (leb-true _ _ q) (failed-iff (fits-iff r i kind a b) .0 p)))
+    (λ q. above (leb-false _ _ q))
 
 module _ (t : List ℕ) where
   pub node-cases : (P : ℕ → Type 0) (i : ℕ) → (NodeFits t i → P READ) → (6 < kindOf t i → P KIND) → (kindOf t i ≤ 6 → ¬ NodeFits t i → P FIELD) → P (nodeFault t i)

@@ -3,7 +3,7 @@ use mathlib.Core.Path.{_≡_, refl}
 use mathlib.Core.List.{List, [], _∷_}
 use Prim.Native.Nat.{ℕ}
 use Rattle.meaning.specs.Grammar.{range, rule, seq, choice, Grammar}
-use Rattle.sheet.specs.Table.{lengthOf, nodesOf, rulesOf, rootOf, formula, kindOf, aOf, bOf, nodeOf, grammarOf}
+use Rattle.sheet.specs.Table.{lengthOf, nodesOf, rulesOf, rootOf, formula, kindOf, fieldOf, nodeOf, grammarOf}
 use Rattle.sheet.specs.Check.{READ, COUNT, LENGTH, ROOT, KIND, FIELD, verdict, firstFault, rootFault, fieldsFit, faultOf, nodeFault, checkOf}
 
 -- S <- S '+' D / D; D <- [0-9].
@@ -44,7 +44,7 @@ sheetB =
     }
 
 pub sheets : (checkOf tableA ≡ verdict READ 0) × (grammarOf tableA ≡ sheetA) × (checkOf tableB ≡ verdict READ 0) × (grammarOf tableB ≡ sheetB)
-unfolding checkOf firstFault rootFault nodeFault faultOf fieldsFit grammarOf nodeOf kindOf aOf bOf rootOf lengthOf nodesOf rulesOf formula
+unfolding checkOf firstFault rootFault nodeFault faultOf fieldsFit grammarOf nodeOf kindOf fieldOf rootOf lengthOf nodesOf rulesOf formula
 sheets = (refl, refl, refl, refl)
 
 -- Of two faults the one that 01 tests first: a count before a length, a root before a node, a field of node 0 before the kind of node 1.
@@ -54,5 +54,5 @@ pub first-of-two :
     × (checkOf (1 ∷ 0 ∷ 14 ∷ 0 ∷ 1 ∷ 0 ∷ 1 ∷ 0 ∷ 1 ∷ 9 ∷ 0 ∷ 0 ∷ 0 ∷ 0 ∷ []) ≡ verdict ROOT 0)
     × (checkOf (1 ∷ 0 ∷ 19 ∷ 0 ∷ 2 ∷ 0 ∷ 1 ∷ 0 ∷ 1 ∷ 0 ∷ 0 ∷ 1 ∷ 0 ∷ 0 ∷ 9 ∷ 0 ∷ 0 ∷ 0 ∷ 0 ∷ []) ≡ verdict FIELD 0)
     × (checkOf (1 ∷ 0 ∷ 19 ∷ 0 ∷ 2 ∷ 0 ∷ 1 ∷ 0 ∷ 1 ∷ 0 ∷ 0 ∷ 0 ∷ 0 ∷ 0 ∷ 9 ∷ 0 ∷ 0 ∷ 0 ∷ 9 ∷ []) ≡ verdict KIND 1)
-unfolding checkOf firstFault rootFault nodeFault faultOf fieldsFit kindOf aOf bOf rootOf lengthOf nodesOf rulesOf formula
+unfolding checkOf firstFault rootFault nodeFault faultOf fieldsFit kindOf fieldOf rootOf lengthOf nodesOf rulesOf formula
 first-of-two = (refl, refl, refl, refl, refl)

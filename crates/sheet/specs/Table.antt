@@ -46,11 +46,15 @@ formula t = nodeAt (rulesOf t) (nodesOf t)
 unfoldable pub kindOf : List ℕ → ℕ → ℕ
 kindOf t i = byteAt t (nodeAt (rulesOf t) i)
 
-unfoldable pub aOf : List ℕ → ℕ → ℕ
-aOf t i = pairAt t (nodeAt (rulesOf t) i + 1)
+-- A field of node i, by where it stands in the node.
+unfoldable pub fieldOf : List ℕ → ℕ → ℕ → ℕ
+fieldOf t i at = pairAt t (nodeAt (rulesOf t) i + at)
 
-unfoldable pub bOf : List ℕ → ℕ → ℕ
-bOf t i = pairAt t (nodeAt (rulesOf t) i + 3)
+abbrev pub aOf : List ℕ → ℕ → ℕ
+aOf t i = fieldOf t i 1
+
+abbrev pub bOf : List ℕ → ℕ → ℕ
+bOf t i = fieldOf t i 3
 
 -- 01, the table of kinds, row by row: what fields a and b node i may have, by its kind, in a table of r rules.
 -- 01: "A child's number is below its parent's."

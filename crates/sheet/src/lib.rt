@@ -13,9 +13,9 @@
 
 ghost use mathlib.Core.Path.{_≡_};
 ghost use mathlib.Core.Bool.{_&&_, cond};
-ghost use Prim.Native.Nat.{_+_, _<_, _≤_};
+ghost use Prim.Native.Nat.{_+_, _%_, _<_, _≤_};
 ghost use lib.ListN.{length};
-ghost use Rattle.sheet.specs.Table.{pairAt, nodesOf, mostNodes, rulesOf, mostRules, rootOf, nodeAt, kindOf, aOf, bOf};
+ghost use Rattle.sheet.specs.Table.{pairAt, nodesOf, mostNodes, rulesOf, mostRules, rootOf, nodeAt, kindOf, fieldOf, aOf, bOf};
 ghost use Rattle.sheet.specs.Check.{READ, FIELD, _orElse_, firstFault, inRange, allEqual, rootFault, faultOf, nodeFault, checkOf, Accepted};
 
 // 01's codes.
@@ -244,20 +244,27 @@ pub fn kind_from(table: &[u8], first: usize, i: usize) -> usize
     wide(table[at])
 }
 
-// Field a of node i.
+// The field of node i that stands at this byte of the node: 1 for field a, 3 for field b.
+fn field_from(table: &[u8], first: usize, i: usize, at: usize) -> usize
+    requires { ⌜ Accepted (now table) × ((i < nodesOf (now table)) × (first ≡ nodeAt (rulesOf (now table)) 0)) ⌝ }
+    requires { ⌜ (at % 2 ≡ 1) × (at ≤ 3) ⌝ }
+    ensures { λ r. ⌜ (r ≡ fieldOf (now (table .entry)) i at) × (r < mostNodes) ⌝ }
+{
+    pair(table, first + 5 * i + at)
+}
+
 pub fn field_a_from(table: &[u8], first: usize, i: usize) -> usize
     requires { ⌜ Accepted (now table) × ((i < nodesOf (now table)) × (first ≡ nodeAt (rulesOf (now table)) 0)) ⌝ }
     ensures { λ a. ⌜ (a ≡ aOf (now (table .entry)) i) × (a < mostNodes) ⌝ }
 {
-    pair(table, first + 5 * i + 1)
+    field_from(table, first, i, 1)
 }
 
-// Field b of node i.
 pub fn field_b_from(table: &[u8], first: usize, i: usize) -> usize
     requires { ⌜ Accepted (now table) × ((i < nodesOf (now table)) × (first ≡ nodeAt (rulesOf (now table)) 0)) ⌝ }
     ensures { λ b. ⌜ (b ≡ bOf (now (table .entry)) i) × (b < mostNodes) ⌝ }
 {
-    pair(table, first + 5 * i + 3)
+    field_from(table, first, i, 3)
 }
 
 // The same, for a caller who does not.

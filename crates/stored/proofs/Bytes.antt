@@ -2,14 +2,13 @@
 use mathlib.Core.Path.{_≡_, refl, sym, _∙_}
 use mathlib.Core.List.{List, [], _∷_, _++_, append-assoc}
 use native.Mathlib.Omega.{arith}
-use native.Mathlib.Numerals.{add-one}
 use native.Mathlib.Nat.{mul-add, mul-one, mul-zero, mul-le-mul}
 use Prim.Native.Nat.{ℕ, zero, suc, _+_, _*_, _/_, _%_, _<_, _≤_}
 use lib.ListN.{length, set, length-append}
 use lib.Seq.{sets}
 use Rattle.meaning.specs.Grammar.{Trees, no-trees, tree, _⋈_}
+use Rattle.meaning.proofs.Sets.{sets-on, one-by-one}
 use Rattle.stored.specs.Stored.{recordsOf, numberOf, inBytes, recordSize, recordBytes, treesBytes, storedLength, headBytes, storedOf}
-use Rattle.stored.proofs.Sets.{sets-on}
 
 pub length-inBytes : (w n : ℕ) → length (inBytes w n) ≡ w
 unfolding inBytes
@@ -73,7 +72,7 @@ put-one room at w n b ew eb = rw (ew, eb)
 
 pub put-two : (room : List ℕ) (at w n b d : ℕ) → w ≡ 2 → b ≡ n / 256 % 256 → d ≡ n % 256 → set (set room at b) (at + 1) d ≡ sets room at (inBytes w n)
 unfolding inBytes
-put-two room at w n b d ew eb ed = rw (ew, eb, ed, add-one at)
+put-two room at w n b d ew eb ed = rw (ew, eb, ed) (one-by-one room at (n / 256 % 256) (n % 256 ∷ []))
 
 -- A record, and the head, written number after number.
 pub record-put : (room : List ℕ) (w at a x e n : ℕ) (r₁ r₂ r₃ r₄ : List ℕ) → r₁ ≡ sets room at (inBytes 1 a) → r₂ ≡ sets r₁ (at + 1) (inBytes w x)

@@ -1,7 +1,7 @@
 -- What the code tests of the records, and what the definition says of them.
 use mathlib.Core.Path.{_≡_, refl, sym, ap, _∙_}
 use mathlib.Core.List.{List, _∷_}
-use mathlib.Core.Bool.{Bool, true, false, _&&_}
+use mathlib.Core.Bool.{Bool, false, _&&_, and-false}
 use native.Mathlib.Omega.{arith}
 use native.Mathlib.Numerals.{add-one, sub-one}
 use native.Mathlib.Nat.{add-zero, mul-suc}
@@ -93,10 +93,6 @@ rest r l xs us = allInRange r l xs && onlyLast (goes xs us)
 pub none-left : (words : List ℕ) (r l w : ℕ) (bytes : List ℕ) (p n top : ℕ) (y : Bool) → n ≤ 0 → rest r l (recordsAt w bytes p n) (spansOf words top) ≡ y → eqb top 1 ≡ y
 unfolding onlyLast allInRange goes recordsAt
 none-left words r l w bytes p n top y h e = let z : n ≡ 0 = omega arith in let e′ : eqb (length (spansOf words top)) 1 ≡ y = rw z at e in sym (ap (λ k. eqb k 1) (length-spans words top)) ∙ e′
-
-pub and-false : (b : Bool) → b && false ≡ false
-and-false true = refl
-and-false false = refl
 
 -- The next record, as it was read: its rule, its span and its number of children.
 module _ (r l w : ℕ) (bytes words : List ℕ) (p n top rule start end number : ℕ) (y : Bool) (h : 0 < n)

@@ -1,7 +1,7 @@
 -- What the code tests of a slice's head, and what the definition says of it.
 use mathlib.Core.Path.{_≡_, sym, _∙_}
 use mathlib.Core.List.{List, []}
-use mathlib.Core.Bool.{true, false}
+use mathlib.Core.Bool.{true, false, and-false}
 use native.Mathlib.Omega.{arith}
 use native.Mathlib.Nat.{mul-le-mul-right}
 use Prim.Native.Nat.{ℕ, _+_, _*_, _<_, _≤_}
@@ -10,7 +10,7 @@ use lib.Dec.{eqb}
 use borrow.Author.Tests.{le-ltb, lt-ltb, eq-eqb, ne-eqb}
 use Rattle.stored.specs.Stored.{storedLength}
 use Rattle.stored.specs.WellFormed.{numberAt, recordsAt, wellFormedOf}
-use Rattle.stored.proofs.Goes.{rest, and-false}
+use Rattle.stored.proofs.Goes.{rest}
 
 module _ (w r l : ℕ) (bytes : List ℕ) where
   pub judged-short : length bytes < 5 → false ≡ wellFormedOf w r l bytes

@@ -1,7 +1,7 @@
 -- Well-formed bytes are stored of exactly one tree; its spans nest, and it is read back from them.
 use mathlib.Core.Path.{_≡_, refl, sym, ap, _∙_}
 use mathlib.Core.List.{List, [], _∷_, _++_, append-assoc}
-use mathlib.Core.Bool.{true, _&&_}
+use mathlib.Core.Bool.{true, _&&_, and-eq-true-iff}
 use native.Mathlib.Omega.{arith}
 use native.Mathlib.Nat.{mul-zero, mul-suc}
 use Prim.Native.Nat.{ℕ, zero, suc, _+_, _*_, _/_, _%_, _<_, _≤_}
@@ -18,7 +18,7 @@ use Rattle.stored.proofs.Bytes.{length-stored}
 use Rattle.stored.proofs.Goes.{number-one}
 use Rattle.stored.proofs.Records.{listed, length-listed}
 use Rattle.stored.proofs.ReadBack.{tree-back, read-back}
-use Rattle.stored.proofs.Taking.{only, both}
+use Rattle.stored.proofs.Taking.{only}
 
 -- The bytes of records.
 abbrev bytesOf : ℕ → List Record → List ℕ
@@ -54,11 +54,11 @@ parts w r l bytes e =
     let v = eqb (getD bytes 0 0) w in
     let m = eqb (numberAt 2 bytes 1) (length bytes) in
     let f = eqb (storedLength w n) (length bytes) in
-    let e₁ = both (v && m && f && ltb 0 n && allInRange r l (recordsAt w bytes 5 n)) (onlyLast (goes (recordsAt w bytes 5 n) [])) e in
-    let e₂ = both (v && m && f && ltb 0 n) (allInRange r l (recordsAt w bytes 5 n)) (e₁ .0) in
-    let e₃ = both (v && m && f) (ltb 0 n) (e₂ .0) in
-    let e₄ = both (v && m) f (e₃ .0) in
-    let e₅ = both v m (e₄ .0) in
+    let e₁ = and-eq-true-iff (v && m && f && ltb 0 n && allInRange r l (recordsAt w bytes 5 n)) (onlyLast (goes (recordsAt w bytes 5 n) [])) .0 e in
+    let e₂ = and-eq-true-iff (v && m && f && ltb 0 n) (allInRange r l (recordsAt w bytes 5 n)) .0 (e₁ .0) in
+    let e₃ = and-eq-true-iff (v && m && f) (ltb 0 n) .0 (e₂ .0) in
+    let e₄ = and-eq-true-iff (v && m) f .0 (e₃ .0) in
+    let e₅ = and-eq-true-iff v m .0 (e₄ .0) in
     record { version = eqb-true _ _ (e₅ .0); long = eqb-true _ _ (e₅ .1); formula = eqb-true _ _ (e₄ .1); range = e₂ .1; last = e₁ .1 }
 
 -- The tree, and that there is no other.

@@ -50,9 +50,6 @@ clash e = let z : _≡_ {A = ℕ} 0 1 = cc in absurd (omega arith)
 inside : {us vs : List Span} → untaken us ≡ untaken vs → us ≡ vs
 inside e = cc
 
-pub both : (a b : Bool) → a && b ≡ true → (a ≡ true) × (b ≡ true)
-both a b e = and-eq-true-iff a b .0 e
-
 chosen : (b : Bool) {x : Untaken} {us : List Span} → cond b x fault ≡ untaken us → (b ≡ true) × (x ≡ untaken us)
 chosen true e = (refl, e)
 chosen false e = clash e
@@ -72,7 +69,7 @@ gather r l start high zero bound us ts vs h p q t = record {
 gather r l start high (suc n) bound no-trees ts vs h p q t = clash t
 gather r l start high (suc n) bound (tree a x e cs us) ts vs h p q t =
     let b = chosen (leb e bound && leb start x) t in
-    let c = both (leb e bound) (leb start x) (b .0) in
+    let c = and-eq-true-iff (leb e bound) (leb start x) .0 (b .0) in
     let i : e ≤ bound = leb-true e bound (c .0) in
     let j : start ≤ x = leb-true start x (c .1) in
     let g = gather r l start high n x us (tree a x e cs ts) vs (h .1 .1 .1) (h .0, (omega arith, (h .1 .1 .0, nested-low r e bound high ts i p))) j (b .1) in
@@ -91,8 +88,8 @@ stepped : (r l : ℕ) (x : Record) (done : List Record) (us vs : List Span) → 
     → Stack r l (done ++ (x ∷ [])) (record { start = x .start; end = x .end } ∷ vs)
 unfolding Nested numberOf
 stepped r l x done us vs s ir et =
-    let b = both (ltb (x .rule) r && leb (x .start) (x .end)) (leb (x .end) l) ir in
-    let c = both (ltb (x .rule) r) (leb (x .start) (x .end)) (b .0) in
+    let b = and-eq-true-iff (ltb (x .rule) r && leb (x .start) (x .end)) (leb (x .end) l) .0 ir in
+    let c = and-eq-true-iff (ltb (x .rule) r) (leb (x .start) (x .end)) .0 (b .0) in
     let t : takes (x .number) (x .start) (x .end) (spansOn (s .trees)) ≡ untaken vs = rw (s .spans) et in
     let g = gather r l (x .start) (x .end) (x .number) (x .end) (s .trees) no-trees vs (s .each) (omega arith) (leb-true _ _ (c .1)) t in
     let k : numberOf (g .children) ≡ x .number = g .number ∙ omega arith in
@@ -111,7 +108,7 @@ gone : (r l : ℕ) (xs done : List Record) (us vs : List Span) → Stack r l don
 unfolding goes allInRange
 gone r l [] done us vs s a e = rw (append-nil done) (moved s (inside e))
 gone r l (x ∷ xs) done us vs s a e =
-    let later = both (inRange r l x) (allInRange r l xs) a .1 in
+    let later = and-eq-true-iff (inRange r l x) (allInRange r l xs) .0 a .1 in
     next (takes (x .number) (x .start) (x .end) us) refl e (λ ws s′ e′. gone r l xs (done ++ (x ∷ [])) (record { start = x .start; end = x .end } ∷ ws) vs s′ later e′)
   where
     next : (t : Untaken) → takes (x .number) (x .start) (x .end) us ≡ t → after t (λ ws. goes xs (record { start = x .start; end = x .end } ∷ ws)) ≡ untaken vs
@@ -119,7 +116,7 @@ gone r l (x ∷ xs) done us vs s a e =
         → Stack r l ((done ++ (x ∷ [])) ++ xs) vs)
         → Stack r l (done ++ (x ∷ xs)) vs
     next fault et en ih = clash en
-    next (untaken ws) et en ih = rw (append-assoc done (x ∷ []) xs) at (ih ws (stepped r l x done us ws s (both (inRange r l x) (allInRange r l xs) a .0) et) en)
+    next (untaken ws) et en ih = rw (append-assoc done (x ∷ []) xs) at (ih ws (stepped r l x done us ws s (and-eq-true-iff (inRange r l x) (allInRange r l xs) .0 a .0) et) en)
 
 -- The one tree that is left.
 pub record Only (r l : ℕ) (xs : List Record) : Type 0 where

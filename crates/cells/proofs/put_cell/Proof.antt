@@ -1,9 +1,11 @@
 -- `put_cell` writes the four words of a cell.
 use native.Mathlib.Omega.{arith}
+use mathlib.Core.List.{[], _∷_}
 use lib.ListN.{length-set}
 use borrow.Author.Needs.{needs}
+use Rattle.meaning.proofs.Sets.{one-by-one}
 use Rattle.cells.proofs.put_cell.Tie as tie
-use Rattle.cells.proofs.Making.{cell-put}
+use Rattle.cells.specs.Cells.{withCell}
 use Rattle.cells.proofs.put_cell.Statement.{statement}
 
 mul-at : tie.Need-mul-at
@@ -49,9 +51,8 @@ same-length : tie.Need-same-length
 same-length c = search needs
 
 returns : tie.Need-returns
-returns c =
-    let start = c in
-    cell-put (start .args .work .now) (start .args .top) (start .args .first) (start .args .second) (start .args .records) (start .args .trees)
+unfolding withCell
+returns c = one-by-one (c .args .work .now) _ _ (c .args .records ∷ c .args .second ∷ c .args .trees ∷ [])
 
 pub put-cell-spec : {M : Type 1} → statement M
 put-cell-spec =

@@ -1,6 +1,8 @@
 -- What is put down are the two halves and the flag.
+use mathlib.Core.List.{[], _∷_}
 use native.Mathlib.Omega.{arith}
 use lib.ListN.{length-set}
+use Rattle.meaning.proofs.Sets.{one-by-one}
 use Rattle.report.specs.Pass.{put}
 use borrow.Author.Needs.{needs}
 use Rattle.report.proofs.put.Statement.{statement}
@@ -47,7 +49,9 @@ same-length c = search needs
 
 returns : tie.Need-returns
 unfolding put
-returns c = rw (c .before .before .low-half .ensures, c .before .high-half .ensures, c .flag .ensures)
+returns c =
+    let start = c .before .before .before .before in
+    rw (c .before .before .low-half .ensures, c .before .high-half .ensures, c .flag .ensures) (one-by-one (start .args .scratch .now) _ _ (_ ∷ _ ∷ []))
 
 pub put-spec : {M : Type 1} → statement M
 put-spec =

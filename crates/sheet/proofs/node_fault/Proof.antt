@@ -1,6 +1,6 @@
 -- `node_fault` meets its contract.
 use borrow.Author.Needs.{needs}
-use Rattle.sheet.specs.Table.{kindOf, aOf, bOf}
+use Rattle.sheet.specs.Table.{kindOf, fieldOf}
 use Rattle.sheet.specs.Check.{nodeFault}
 use Rattle.sheet.proofs.node_fault.Statement.{statement}
 use Rattle.sheet.proofs.node_fault.Tie as tie
@@ -39,7 +39,7 @@ fault-requires : tie.Need-fault-requires
 fault-requires c κs = search needs
 
 returns : tie.Need-returns
-unfolding nodeFault kindOf aOf bOf
+unfolding nodeFault kindOf fieldOf
 returns c = cc
 
 pub node-fault-spec : {M : Type 1} → statement M

@@ -3,6 +3,7 @@ use mathlib.Core.Path.{_≡_, refl, sym, _∙_}
 use mathlib.Core.List.{List, [], _∷_, _++_}
 use native.Mathlib.Omega.{arith}
 use native.Mathlib.Nat.{add-zero, add-suc, suc-add, zero-add}
+use native.Mathlib.Numerals.{add-one}
 use Prim.Native.Nat.{ℕ, zero, suc, _+_, _<_, _≤_}
 use lib.ListN.{length, getD, set, drop, length-set}
 use lib.Seq.{sets, sets-eq, getD-set-same, getD-set-other}
@@ -31,3 +32,16 @@ sets-at (x ∷ xs) room at zero h l = rw (add-zero at) (sets-below xs (set room 
 sets-at (x ∷ xs) room at (suc k) h l =
     let e : at + suc k ≡ suc at + k = omega arith in
     rw e (sets-at xs (set room at x) (suc at) k (omega arith) (omega (arith, length-set room at x)))
+
+-- Numbers stored one by one as code stores them, at + k, at + k + 1 and so on.
+abbrev pub stores : List ℕ → ℕ → ℕ → List ℕ → List ℕ
+stores room at k [] = room
+stores room at k (x ∷ xs) = stores (set room (at + k) x) at (suc k) xs
+
+stores-from : (room : List ℕ) (at k : ℕ) (xs : List ℕ) → stores room at k xs ≡ sets room (at + k) xs
+stores-from room at k [] = refl
+stores-from room at k (x ∷ xs) = stores-from (set room (at + k) x) at (suc k) xs ∙ rw (add-suc at k)
+
+-- The first at `at` itself.
+pub one-by-one : (room : List ℕ) (at x : ℕ) (xs : List ℕ) → stores (set room at x) at 1 xs ≡ sets room at (x ∷ xs)
+one-by-one room at x xs = stores-from (set room at x) at 1 xs ∙ rw (add-one at)
