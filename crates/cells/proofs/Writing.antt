@@ -83,16 +83,15 @@ module _ (words : List ℕ) (list : ℕ) (arena : Arena words list) (z : list �
     unfolding treesBytes
     tree-bytes width = rw is-tree (rw (append-nil (recordBytes width (second words list / 16777216 % 64) (second words list / 4096 % 4096) (second words list % 4096) (numberOf (treesAt words (first words list))))))
 
--- Along a list, from its end to its front: what is left to write, from where the whole starts as far as a place, gives the whole.
+-- Along a list, from its end to its front: what is left to write, as far as a place, gives the whole.
 pub record Along (words room₀ room : List ℕ) (width list end rest to : ℕ) : Type 0 where
   pub within : rest ≤ list
   pub few : recordsOf (treesAt words rest) ≤ 1000
   pub long : length room ≡ length room₀
   pub order : to ≤ end
   pub start : ℕ
-  pub all : end ≡ start + recordSize width * recordsOf (treesAt words list)
   pub left : to ≡ start + recordSize width * recordsOf (treesAt words rest)
-  pub same : sets room start (treesBytes width (treesAt words rest)) ≡ sets room₀ start (treesBytes width (treesAt words list))
+  pub same : Wrote room₀ (sets room start (treesBytes width (treesAt words rest))) width end (treesAt words list)
 
 pub along-all : (words room : List ℕ) (width list end : ℕ) → recordsOf (treesAt words list) ≤ 1000 → recordSize width * recordsOf (treesAt words list) ≤ end → Along words room room width list end list end
 along-all words room width list end few h = record {
@@ -101,40 +100,38 @@ along-all words room width list end few h = record {
   long = refl;
   order = omega arith;
   start = end - recordSize width * recordsOf (treesAt words list);
-  all = omega arith;
   left = omega arith;
   same = refl;
 }
 
 module _ {words room₀ room : List ℕ} {width list end rest to : ℕ} (along : Along words room₀ room width list end rest to) where
-  pub along-none : rest ≡ 0 → Wrote room₀ room width to end (treesAt words list)
-  unfolding recordsOf treesBytes
-  along-none z =
-      let n : treesAt words rest ≡ no-trees = trees-zero words rest z in
-      let l : to ≡ along .start + recordSize width * 0 = rw n at (along .left) in
-      let e : to ≡ along .start = omega (arith, mul-zero (recordSize width)) in
-      let s : room ≡ sets room₀ (along .start) (treesBytes width (treesAt words list)) = rw n at (along .same) in
-      rw e (along .all, s)
+  pub along-none : rest ≡ 0 → Wrote room₀ room width end (treesAt words list)
+  unfolding treesBytes
+  along-none z = let n : treesAt words rest ≡ no-trees = trees-zero words rest z in rw n at (along .same)
 
   module _ (arena : Arena words list) (z : rest ≡ 0 → ⊥) where
     pub here : Arena words rest
     here = arena-less words list rest (along .within) arena
 
+    abbrev whole : List ℕ
+    whole = treesBytes width (treesAt words rest)
+
+    abbrev front : List ℕ
+    front = treesBytes width (treesAt words (first words rest))
+
     -- What stands behind the first list is written: the first list is left.
-    step : (xs mid : List ℕ) (next : ℕ) → treesBytes width (treesAt words rest) ≡ treesBytes width (treesAt words (first words rest)) ++ xs → mid ≡ sets room next xs
+    first-left : (xs mid : List ℕ) (next : ℕ) → whole ≡ front ++ xs → mid ≡ sets room next xs
         → recordsOf (treesAt words (first words rest)) ≤ 1000 → next ≤ to → next ≡ along .start + recordSize width * recordsOf (treesAt words (first words rest))
         → Along words room₀ mid width list end (first words rest) next
-    step xs mid next b e few h en =
+    first-left xs mid next b e few h en =
         let l = length-trees width (treesAt words (first words rest)) in
-        let f = treesBytes width (treesAt words (first words rest)) in
-        let s : sets mid (along .start) f ≡ sets room (along .start) (treesBytes width (treesAt words rest)) = rw (e, b) (sets-behind f xs room (along .start) next (omega arith)) in
+        let s : sets mid (along .start) front ≡ sets room (along .start) whole = rw (e, b) (sets-behind front xs room (along .start) next (omega arith)) in
         record {
           within = omega (arith, along .within, first-below words rest here z);
           few = few;
           long = rw e (length-sets room next xs ∙ along .long);
           order = omega (arith, along .order);
           start = along .start;
-          all = along .all;
           left = en;
           same = s ∙ along .same;
         }
@@ -146,27 +143,54 @@ module _ {words room₀ room : List ℕ} {width list end rest to : ℕ} (along :
         let r = records-one words rest here z m in
         let c = number-few (treesAt words (first words rest)) in
         let n′ : n ≡ numberOf (treesAt words (first words rest)) = omega (arith, along .few) in
-        step _ mid next (tree-bytes words rest here z m width) (rw n′ at e) (omega (arith, along .few)) (omega arith) (omega (arith, along .left, bytes-one words rest here z m width))
+        first-left _ mid next (tree-bytes words rest here z m width) (rw n′ at e) (omega (arith, along .few)) (omega arith) (omega (arith, along .left, bytes-one words rest here z m width))
 
-    pub along-join : (m : second words rest < mark) (mid : List ℕ) (next : ℕ) → Wrote room mid width next to (treesAt words (second words rest))
-        → Along words room₀ mid width list end (first words rest) next
-    along-join m mid next w =
-        let r = records-both words rest here z m in
-        step _ mid next (join-bytes words rest here z m width) (w .1) (omega (arith, along .few)) (omega (arith, w .0)) (omega (arith, w .0, along .left, bytes-both words rest here z m width))
+    -- Two lists joined, and where the second starts, by its count.
+    module _ (m : second words rest < mark) (right : ℕ) (counted : right ≡ saturated (recordsOf (treesAt words (second words rest)))) where
+      few-both : recordsOf (treesAt words (first words rest)) + recordsOf (treesAt words (second words rest)) ≤ 1000
+      few-both = omega (arith, along .few, records-both words rest here z m)
+
+      right-is : recordSize width * right ≡ recordSize width * recordsOf (treesAt words (second words rest))
+      right-is = let e : right ≡ recordsOf (treesAt words (second words rest)) = omega (arith, counted, few-both) in rw e
+
+      pub between-is : to ≡ along .start + recordSize width * recordsOf (treesAt words (first words rest)) + recordSize width * right
+      between-is = omega (arith, along .left, bytes-both words rest here z m width, right-is)
+
+      -- The second is written, the first is left.
+      pub along-first : (mid : List ℕ) → Wrote room mid width to (treesAt words (second words rest)) → Along words room₀ mid width list end (first words rest) (to - recordSize width * right)
+      along-first mid w =
+          first-left _ mid (to - recordSize width * right) (join-bytes words rest here z m width) (rw right-is w) (omega (arith, few-both)) (omega arith) (omega (arith, between-is))
+
+      -- The first is written, the second is left.
+      pub along-second : (mid : List ℕ) → Wrote room mid width (to - recordSize width * right) (treesAt words (first words rest)) → Along words room₀ mid width list end (second words rest) to
+      along-second mid w =
+          let at : to - recordSize width * right - recordSize width * recordsOf (treesAt words (first words rest)) ≡ along .start = omega (arith, between-is) in
+          let e : mid ≡ sets room (along .start) front = w ∙ rw at in
+          let next : to - recordSize width * right ≡ along .start + length front = omega (arith, between-is, length-trees width (treesAt words (first words rest))) in
+          let s = sets-on room (along .start) (to - recordSize width * right) front (treesBytes width (treesAt words (second words rest))) mid (sets mid (to - recordSize width * right) (treesBytes width (treesAt words (second words rest)))) next e refl in
+          record {
+            within = omega (arith, along .within, second-below words rest here z m);
+            few = omega (arith, few-both);
+            long = rw e (length-sets room (along .start) front ∙ along .long);
+            order = along .order;
+            start = to - recordSize width * right;
+            left = omega (arith, between-is, right-is);
+            same = (s ∙ rw (join-bytes words rest here z m width)) ∙ along .same;
+          }
 
 -- Of few records the count is right, and so is the end that is taken from it.
 pub end-is : (width n : ℕ) (ts : Trees) → recordsOf ts ≤ 1000 → n ≡ saturated (recordsOf ts) → storedLength width n ≡ storedLength width (recordsOf ts)
 end-is width n ts few e = let n′ : n ≡ recordsOf ts = omega arith in rw n′
 
 -- The whole stored reading: the head, then the records.
-pub all-wrote : (room r₁ r₂ : List ℕ) (width n at : ℕ) (ts : Trees) → recordsOf ts ≤ 1000 → storedLength width (recordsOf ts) ≤ length room
-    → n ≡ saturated (recordsOf ts) → r₁ ≡ sets room 0 (headBytes width n) → Wrote r₁ r₂ width at (storedLength width n) ts → r₂ ≡ withStored room width ts
+pub all-wrote : (room r₁ r₂ : List ℕ) (width n : ℕ) (ts : Trees) → recordsOf ts ≤ 1000 → storedLength width (recordsOf ts) ≤ length room
+    → n ≡ saturated (recordsOf ts) → r₁ ≡ sets room 0 (headBytes width n) → Wrote r₁ r₂ width (storedLength width n) ts → r₂ ≡ withStored room width ts
 unfolding storedOf
-all-wrote room r₁ r₂ width n at ts few fits en e₁ w₂ =
+all-wrote room r₁ r₂ width n ts few fits en e₁ w₂ =
     let h = headBytes width (recordsOf ts) in
     let xs = treesBytes width ts in
     let n′ : n ≡ recordsOf ts = omega arith in
     let lh : length h ≡ 5 = length-head width (recordsOf ts) in
-    let s : r₂ ≡ sets room 0 (h ++ xs) = sets-on room 0 at h xs r₁ r₂ (omega (arith, w₂ .0, end-is width n ts few en)) (rw n′ at e₁) (w₂ .1) in
+    let s : r₂ ≡ sets room 0 (h ++ xs) = sets-on room 0 (storedLength width n - recordSize width * recordsOf ts) h xs r₁ r₂ (omega (arith, end-is width n ts few en)) (rw n′ at e₁) w₂ in
     let l : length (h ++ xs) ≡ storedLength width (recordsOf ts) = length-stored width ts in
     s ∙ sets-front room (h ++ xs) (omega arith) ∙ rw l

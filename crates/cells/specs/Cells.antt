@@ -3,7 +3,7 @@
 use mathlib.Core.Bool.{cond}
 use mathlib.Core.List.{List, [], _∷_, _++_}
 use mathlib.Core.Path.{_≡_}
-use Prim.Native.Nat.{ℕ, zero, suc, _+_, _*_, _/_, _%_, min}
+use Prim.Native.Nat.{ℕ, zero, suc, _+_, _-_, _*_, _/_, _%_, min}
 use lib.ListN.{getD}
 use lib.Seq.{sets}
 use lib.Dec.{ltb}
@@ -79,5 +79,5 @@ joinOf words top (suc f) zero = joined words (suc f) top
 joinOf words top (suc f) (suc s) = joined (withJoin words top (suc f) (suc s)) (top + 1) (top + 1)
 
 -- The records of a list of trees are written over the room from at on, as far as end.
-abbrev pub Wrote : List ℕ → List ℕ → ℕ → ℕ → ℕ → Trees → Type 0
-Wrote room new width at end ts = (end ≡ at + recordSize width * recordsOf ts) × (new ≡ sets room at (treesBytes width ts))
+abbrev pub Wrote : (room new : List ℕ) (width end : ℕ) → Trees → Type 0
+Wrote room new width end ts = new ≡ sets room (end - recordSize width * recordsOf ts) (treesBytes width ts)

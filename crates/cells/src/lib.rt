@@ -146,13 +146,13 @@ pub fn join(work: &mut [u32], top: u32, left: u32, right: u32) -> Held
     }
 }
 
-// Writes the records of a list of trees so that they end at `end`, and says where they start. From the last to the first: it calls itself for
-// the second of two joined lists only, so a tree that leans to the left takes no depth, and none goes deeper than there are records.
-fn write_trees(work: &[u32], room: &mut [u8], width: usize, list: u32, end: usize) -> usize
+// Writes the records of a list of trees so that they end at `end`. Of two joined lists it calls itself for the one with fewer records and goes on
+// with the other, so its calls nest no deeper than the records can be halved.
+fn write_trees(work: &[u32], room: &mut [u8], width: usize, list: u32, end: usize)
     requires arena { ⌜ Arena (now work) list ⌝ }
     requires few { ⌜ (recordsOf (treesAt (now work) list) ≤ 1000) × ((0 < width) × (width ≤ 2)) ⌝ }
     requires fits { ⌜ (recordSize width * recordsOf (treesAt (now work) list) ≤ end) × (end ≤ length (now room)) ⌝ }
-    ensures { λ r. ⌜ Wrote (now (room .entry)) (now (room .exit)) width r end (treesAt (now (work .entry)) list) ⌝ }
+    ensures { λ _. ⌜ Wrote (now (room .entry)) (now (room .exit)) width end (treesAt (now (work .entry)) list) ⌝ }
 {
     let mut rest = list;
     let mut to = end;
@@ -172,12 +172,21 @@ fn write_trees(work: &[u32], room: &mut [u8], width: usize, list: u32, end: usiz
                 second % START,
                 number,
             );
+            rest = first;
         } else {
-            to = write_trees(work, room, width, second, to);
+            let left = records_of(work, first);
+            let right = records_of(work, second);
+            let between = to - (3 + 2 * width) * right as usize;
+            if left < right {
+                write_trees(work, room, width, first, between);
+                rest = second;
+            } else {
+                write_trees(work, room, width, second, to);
+                to = between;
+                rest = first;
+            }
         }
-        rest = first;
     }
-    to
 }
 
 // Writes the stored reading of a list of trees at the room's front.

@@ -1,4 +1,4 @@
--- `write_trees` writes the records of a list from its end to its front and goes along the first lists in its loop. What falls is the list: a cell is made of lists below it.
+-- `write_trees` writes the records of a list and goes along the longer of two joined lists in its loop. What falls is the list: a cell is made of lists below it.
 use native.Mathlib.Omega.{arith}
 use Prim.Native.Nat.{ℕ, _<_}
 use borrow.Fn.Kinds.{In}
@@ -7,8 +7,10 @@ use Rattle.stored.proofs.put_record.Reads as put-record-reads
 use Rattle.cells.proofs.write_trees.Reads as write-trees
 use Rattle.cells.proofs.write_trees.Kinds as write-trees-kinds
 use Rattle.cells.proofs.+write_trees.Lts-write_trees as write-trees-lts
+use Rattle.cells.proofs.records_of.Reads as records-of-reads
 use Rattle.cells.proofs.trees_of.Reads as trees-of-reads
-use Rattle.cells.proofs.Writing.{first-below, first-arena, second-below, second-arena, records-both, bytes-both, bytes-one, Along, along-all, here, along-none, along-tree, along-join}
+use Rattle.stored.proofs.Bytes.{small-length}
+use Rattle.cells.proofs.Writing.{first-below, first-arena, second-below, second-arena, records-both, bytes-both, bytes-one, Along, along-all, here, along-none, along-tree, between-is, along-first, along-second}
 use Rattle.cells.proofs.+write_trees.{statement}
 use Rattle.cells.proofs.+write_trees.Tie.{close}
 
@@ -24,7 +26,7 @@ write-trees-below t =
     and 2 write-trees-kinds.ps (falls 2 write-trees-kinds.ps _<_ μ-write-trees t) write-trees.Pre
 
 abbrev claims : ℕ → write-trees-lts.Claims
-claims t = (trees-of-reads.Asked, trees-of-reads.Learnt, put-record-reads.Asked, put-record-reads.Learnt, write-trees-below t, write-trees.Post)
+claims t = (trees-of-reads.Asked, trees-of-reads.Learnt, put-record-reads.Asked, put-record-reads.Learnt, records-of-reads.Asked, records-of-reads.Learnt, write-trees-below t, write-trees.Post)
 
 abbrev write-trees-Inv-loop : write-trees-lts.InvT-loop
 write-trees-Inv-loop work room₀ width list end rest₀ to₀ room rest to = Along work room₀ room width list end rest to
@@ -113,26 +115,6 @@ write-trees-put-record-requires t c κs =
     let b = bytes-one w (loop .rest) h z ((c .before .before .if1) .taken) (start .args .width) in
     (omega (arith, start .pre .1 .1 .1 .1, loop .inv .long, loop .inv .order, loop .inv .left, b), start .pre .1 .1 .0 .1)
 
-write-trees-write-trees-requires : (t : ℕ) → write-trees-lts.Need-write-trees-requires (claims t) (write-trees-at t) write-trees.Post write-trees-Inv-loop write-trees-μ-loop
-write-trees-write-trees-requires t c κs =
-    let start = c .before .before .before .before .before .before .before .before in
-    let loop = c .before .before .before .before .before .loop in
-    let w = start .args .work .now in
-    let z = (c .before .before .before .before .loop-test) .taken in
-    let h = here (loop .inv) (start .pre .1 .0) z in
-    let p = start .pre .1 in
-    let m = (c .before .if1) .left in
-    let b = bytes-both w (loop .rest) h z m (start .args .width) in (
-      omega (arith, start .pre .0, loop .inv .within, second-below w (loop .rest) h z m),
-      (
-        second-arena w (loop .rest) h z m,
-        (
-          (omega (arith, loop .inv .few, records-both w (loop .rest) h z m), p .1 .0 .1),
-          (omega (arith, loop .inv .left, b), omega (arith, p .1 .1 .1, loop .inv .long, loop .inv .order)),
-        ),
-      ),
-    )
-
 write-trees-loop-less : (t : ℕ) → write-trees-lts.Need-loop-less (claims t) (write-trees-at t) write-trees.Post write-trees-Inv-loop write-trees-μ-loop
 write-trees-loop-less t c =
     let start = c .before .before .before .before .before .before .before .before .before .before .before .before in
@@ -153,22 +135,123 @@ write-trees-loop-again t c =
     let b = bytes-one w (loop .rest) h z m (start .args .width) in
     along-tree (loop .inv) (start .pre .1 .0) z m _ _ _ ((c .before .before .before .before .trees-of) .ensures) (omega (arith, loop .inv .left, b)) ((c .before .before .put-record) .ensures .1)
 
-write-trees-loop-less-2 : (t : ℕ) → write-trees-lts.Need-loop-less-2 (claims t) (write-trees-at t) write-trees.Post write-trees-Inv-loop write-trees-μ-loop
-write-trees-loop-less-2 t c =
+write-trees-records-of-requires : (t : ℕ) → write-trees-lts.Need-records-of-requires (claims t) (write-trees-at t) write-trees.Post write-trees-Inv-loop write-trees-μ-loop
+write-trees-records-of-requires t c κs =
+    let start = c .before .before .before .before .before .before .before in
+    let loop = c .before .before .before .before .loop in
+    let w = start .args .work .now in
+    let z = (c .before .before .before .loop-test) .taken in
+    let h = here (loop .inv) (start .pre .1 .0) z in
+    first-arena w (loop .rest) h z
+
+write-trees-records-of-requires-2 : (t : ℕ) → write-trees-lts.Need-records-of-requires-2 (claims t) (write-trees-at t) write-trees.Post write-trees-Inv-loop write-trees-μ-loop
+write-trees-records-of-requires-2 t c κs =
+    let start = c .before .before .before .before .before .before .before .before in
+    let loop = c .before .before .before .before .before .loop in
+    let w = start .args .work .now in
+    let z = (c .before .before .before .before .loop-test) .taken in
+    let h = here (loop .inv) (start .pre .1 .0) z in
+    let m = (c .before .if1) .left in
+    second-arena w (loop .rest) h z m
+
+write-trees-mul-between : (t : ℕ) → write-trees-lts.Need-mul-between (claims t) (write-trees-at t) write-trees.Post write-trees-Inv-loop write-trees-μ-loop
+write-trees-mul-between t c = omega (arith, (c .before .before .before .before .before .before .before .before .before) .pre .1 .1 .0 .1 .1)
+
+write-trees-add-between : (t : ℕ) → write-trees-lts.Need-add-between (claims t) (write-trees-at t) write-trees.Post write-trees-Inv-loop write-trees-μ-loop
+write-trees-add-between t c = omega (arith, (c .before .before .before .before .before .before .before .before .before) .pre .1 .1 .0 .1 .1)
+
+write-trees-cast-between : (t : ℕ) → write-trees-lts.Need-cast-between (claims t) (write-trees-at t) write-trees.Post write-trees-Inv-loop write-trees-μ-loop
+write-trees-cast-between t c = omega (arith, c .records-of2 .ensures)
+
+write-trees-mul-between-2 : (t : ℕ) → write-trees-lts.Need-mul-between-2 (claims t) (write-trees-at t) write-trees.Post write-trees-Inv-loop write-trees-μ-loop
+write-trees-mul-between-2 t c =
+    let start = c .before .before .before .before .before .before .before .before .before in
+    omega (arith, small-length (start .args .width) (c .records-of2 .result) (start .pre .1 .1 .0 .1 .1) (omega (arith, c .records-of2 .ensures)))
+
+write-trees-sub-between : (t : ℕ) → write-trees-lts.Need-sub-between (claims t) (write-trees-at t) write-trees.Post write-trees-Inv-loop write-trees-μ-loop
+write-trees-sub-between t c =
+    let start = c .before .before .before .before .before .before .before .before .before in
+    let loop = c .before .before .before .before .before .before .loop in
+    let w = start .args .work .now in
+    let z = (c .before .before .before .before .before .loop-test) .taken in
+    let h = here (loop .inv) (start .pre .1 .0) z in
+    let m = (c .before .before .if1) .left in
+    omega (arith, between-is (loop .inv) (start .pre .1 .0) z m _ (c .records-of2 .ensures))
+
+write-trees-write-trees-requires : (t : ℕ) → write-trees-lts.Need-write-trees-requires (claims t) (write-trees-at t) write-trees.Post write-trees-Inv-loop write-trees-μ-loop
+write-trees-write-trees-requires t c κs =
     let start = c .before .before .before .before .before .before .before .before .before .before .before in
     let loop = c .before .before .before .before .before .before .before .before .loop in
     let w = start .args .work .now in
     let z = (c .before .before .before .before .before .before .before .loop-test) .taken in
     let h = here (loop .inv) (start .pre .1 .0) z in
-    first-below w (loop .rest) h z
+    let m = (c .before .before .before .before .if1) .left in
+    let p = start .pre .1 in
+    let between = between-is (loop .inv) (start .pre .1 .0) z m _ (c .before .before .records-of2 .ensures) in (
+      omega (arith, start .pre .0, loop .inv .within, first-below w (loop .rest) h z),
+      (
+        first-arena w (loop .rest) h z,
+        (
+          (omega (arith, loop .inv .few, records-both w (loop .rest) h z m), p .1 .0 .1),
+          (omega (arith, between), omega (arith, between, p .1 .1 .1, loop .inv .long, loop .inv .order)),
+        ),
+      ),
+    )
+
+write-trees-loop-less-2 : (t : ℕ) → write-trees-lts.Need-loop-less-2 (claims t) (write-trees-at t) write-trees.Post write-trees-Inv-loop write-trees-μ-loop
+write-trees-loop-less-2 t c =
+    let start = c .before .before .before .before .before .before .before .before .before .before .before .before .before .before in
+    let loop = c .before .before .before .before .before .before .before .before .before .before .before .loop in
+    let w = start .args .work .now in
+    let z = (c .before .before .before .before .before .before .before .before .before .before .loop-test) .taken in
+    let h = here (loop .inv) (start .pre .1 .0) z in
+    let m = (c .before .before .before .before .before .before .before .if1) .left in
+    second-below w (loop .rest) h z m
 
 write-trees-loop-again-2 : (t : ℕ) → write-trees-lts.Need-loop-again-2 (claims t) (write-trees-at t) write-trees.Post write-trees-Inv-loop write-trees-μ-loop
 write-trees-loop-again-2 t c =
+    let start = c .before .before .before .before .before .before .before .before .before .before .before .before .before .before in
+    let loop = c .before .before .before .before .before .before .before .before .before .before .before .loop in
+    let z = (c .before .before .before .before .before .before .before .before .before .before .loop-test) .taken in
+    let m = (c .before .before .before .before .before .before .before .if1) .left in
+    along-second (loop .inv) (start .pre .1 .0) z m _ (c .before .before .before .before .before .records-of2 .ensures) _ (c .before .before .write-trees .ensures)
+
+write-trees-write-trees-requires-2 : (t : ℕ) → write-trees-lts.Need-write-trees-requires-2 (claims t) (write-trees-at t) write-trees.Post write-trees-Inv-loop write-trees-μ-loop
+write-trees-write-trees-requires-2 t c κs =
     let start = c .before .before .before .before .before .before .before .before .before .before .before in
     let loop = c .before .before .before .before .before .before .before .before .loop in
+    let w = start .args .work .now in
     let z = (c .before .before .before .before .before .before .before .loop-test) .taken in
+    let h = here (loop .inv) (start .pre .1 .0) z in
     let m = (c .before .before .before .before .if1) .left in
-    along-join (loop .inv) (start .pre .1 .0) z m _ _ ((c .before .before .write-trees) .ensures)
+    let p = start .pre .1 in
+    let b = bytes-both w (loop .rest) h z m (start .args .width) in (
+      omega (arith, start .pre .0, loop .inv .within, second-below w (loop .rest) h z m),
+      (
+        second-arena w (loop .rest) h z m,
+        (
+          (omega (arith, loop .inv .few, records-both w (loop .rest) h z m), p .1 .0 .1),
+          (omega (arith, loop .inv .left, b), omega (arith, p .1 .1 .1, loop .inv .long, loop .inv .order)),
+        ),
+      ),
+    )
+
+write-trees-loop-less-3 : (t : ℕ) → write-trees-lts.Need-loop-less-3 (claims t) (write-trees-at t) write-trees.Post write-trees-Inv-loop write-trees-μ-loop
+write-trees-loop-less-3 t c =
+    let start = c .before .before .before .before .before .before .before .before .before .before .before .before .before .before in
+    let loop = c .before .before .before .before .before .before .before .before .before .before .before .loop in
+    let w = start .args .work .now in
+    let z = (c .before .before .before .before .before .before .before .before .before .before .loop-test) .taken in
+    let h = here (loop .inv) (start .pre .1 .0) z in
+    first-below w (loop .rest) h z
+
+write-trees-loop-again-3 : (t : ℕ) → write-trees-lts.Need-loop-again-3 (claims t) (write-trees-at t) write-trees.Post write-trees-Inv-loop write-trees-μ-loop
+write-trees-loop-again-3 t c =
+    let start = c .before .before .before .before .before .before .before .before .before .before .before .before .before .before in
+    let loop = c .before .before .before .before .before .before .before .before .before .before .before .loop in
+    let z = (c .before .before .before .before .before .before .before .before .before .before .loop-test) .taken in
+    let m = (c .before .before .before .before .before .before .before .if1) .left in
+    along-first (loop .inv) (start .pre .1 .0) z m _ (c .before .before .before .before .before .records-of2 .ensures) _ (c .before .before .write-trees2 .ensures)
 
 write-trees-same-length : (t : ℕ) → write-trees-lts.Need-same-length (claims t) (write-trees-at t) write-trees.Post write-trees-Inv-loop write-trees-μ-loop
 write-trees-same-length t c = (c .before .loop) .inv .long
@@ -194,10 +277,20 @@ pub +write-trees-spec : {M : Type 1} → statement M
     (write-trees-add-to t)
     (write-trees-sub-to t)
     (write-trees-put-record-requires t)
-    (write-trees-write-trees-requires t)
     (write-trees-loop-less t)
     (write-trees-loop-again t)
+    (write-trees-records-of-requires t)
+    (write-trees-records-of-requires-2 t)
+    (write-trees-mul-between t)
+    (write-trees-add-between t)
+    (write-trees-cast-between t)
+    (write-trees-mul-between-2 t)
+    (write-trees-sub-between t)
+    (write-trees-write-trees-requires t)
     (write-trees-loop-less-2 t)
     (write-trees-loop-again-2 t)
+    (write-trees-write-trees-requires-2 t)
+    (write-trees-loop-less-3 t)
+    (write-trees-loop-again-3 t)
     (write-trees-same-length t)
     (write-trees-returns t)

@@ -45,7 +45,7 @@ returns : tie.Need-returns
 returns c =
     let start = c .before .before .before .before .before .before .before .before .before .before .before in
     let p = start .pre in
-    all-wrote (start .args .room .now) _ _ (start .args .width) _ _ _ (p .1 .0 .0) (p .1 .1) ((c .before .before .before .before .before .before .before .before .records-of) .ensures) ((c .before .before .before .before .before .before .put-head) .ensures) ((c .before .before .write-trees) .ensures)
+    all-wrote (start .args .room .now) _ _ (start .args .width) _ _ (p .1 .0 .0) (p .1 .1) ((c .before .before .before .before .before .before .before .before .records-of) .ensures) ((c .before .before .before .before .before .before .put-head) .ensures) ((c .before .before .write-trees) .ensures)
 
 pub write-spec : {M : Type 1} → statement M
 write-spec =

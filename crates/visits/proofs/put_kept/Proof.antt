@@ -2,8 +2,8 @@
 use borrow.Author.Needs.{needs}
 use Rattle.visits.proofs.put_kept.Statement.{statement}
 use Rattle.visits.proofs.put_kept.Tie as tie
-use native.Mathlib.Numerals.{add-one}
-use mathlib.Core.Path.{refl}
+use mathlib.Core.List.{[], _∷_}
+use Rattle.meaning.proofs.Sets.{one-by-one}
 
 mul-work : tie.Need-mul-work
 mul-work c = search needs
@@ -24,7 +24,7 @@ same-length : tie.Need-same-length
 same-length c = search needs
 
 returns : tie.Need-returns
-returns c = rw (add-one (c .args .at)) refl
+returns c = one-by-one (c .args .work .now) _ _ (c .args .list ∷ [])
 
 pub put-kept-spec : {M : Type 1} → statement M
 put-kept-spec =

@@ -2,11 +2,10 @@
 use borrow.Author.Needs.{needs}
 use Rattle.visits.proofs.put_use.Statement.{statement}
 use Rattle.visits.proofs.put_use.Tie as tie
-use native.Mathlib.Numerals.{add-one}
 use native.Mathlib.Omega.{arith}
-use mathlib.Core.Path.{_≡_, refl}
+use mathlib.Core.List.{[], _∷_}
 use lib.ListN.{length-set}
-use Prim.Native.Nat.{suc, _+_, _*_}
+use Rattle.meaning.proofs.Sets.{one-by-one}
 
 mul-at : tie.Need-mul-at
 mul-at c = search needs
@@ -39,9 +38,7 @@ same-length : tie.Need-same-length
 same-length c = search needs
 
 returns : tie.Need-returns
-returns c =
-    let e : c .args .live * 3 + 2 ≡ suc (suc (c .args .live * 3)) = omega arith in
-    rw (add-one (c .args .live * 3), e) refl
+returns c = one-by-one (c .args .work .now) _ _ (c .args .end ∷ c .args .list ∷ [])
 
 pub put-use-spec : {M : Type 1} → statement M
 put-use-spec =
