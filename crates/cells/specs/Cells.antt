@@ -45,12 +45,19 @@ lists words (suc k) = let below = lists words k in below ++ (cellTrees (getD wor
 unfoldable pub treesAt : List ℕ → ℕ → Trees
 treesAt words list = getD (lists words list) list no-trees
 
--- The saturated counts of a list: its records, and its trees. Words 2045 and 2047 are those of list 0.
+-- The words of the two counts of list 0, which has no cell.
+abbrev pub recordsOfNone : ℕ
+recordsOfNone = 2045
+
+abbrev pub treesOfNone : ℕ
+treesOfNone = 2047
+
+-- The saturated counts of a list: its records, and its trees.
 abbrev pub recordsWord : List ℕ → ℕ → ℕ
-recordsWord words list = getD words (2045 + 4 * list) 0
+recordsWord words list = getD words (recordsOfNone + 4 * list) 0
 
 abbrev pub treesWord : List ℕ → ℕ → ℕ
-treesWord words list = getD words (2047 + 4 * list) 0
+treesWord words list = getD words (treesOfNone + 4 * list) 0
 
 -- Cell k written: its first, its records, its second, its trees.
 unfoldable pub withCell : List ℕ → ℕ → ℕ → ℕ → ℕ → ℕ → List ℕ

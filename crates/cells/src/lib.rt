@@ -14,7 +14,7 @@ ghost use lib.ListN.{length};
 ghost use lib.Seq.{sets};
 ghost use Rattle.meaning.specs.Grammar.{no-trees, tree, _⋈_};
 ghost use Rattle.stored.specs.Stored.{recordsOf, numberOf, recordSize, storedLength, withStored};
-ghost use Rattle.cells.specs.Cells.{saturated, treesAt, withCell, withTree, withJoin, joined, joinOf, Wrote};
+ghost use Rattle.cells.specs.Cells.{saturated, recordsOfNone, treesAt, withCell, withTree, withJoin, joined, joinOf, Wrote};
 ghost use Rattle.cells.specs.Arena.{Arena, Made};
 
 // Where the cells start.
@@ -48,7 +48,7 @@ pub struct Held {
 // Makes ready for the first cell: list 0 has no records and no trees.
 pub fn no_cells(work: &mut [u32])
     requires { ⌜ 2048 ≤ length (now work) ⌝ }
-    ensures words { λ _. ⌜ now (work .exit) ≡ sets (now (work .entry)) 2045 (0 ∷ 0 ∷ 0 ∷ []) ⌝ }
+    ensures words { λ _. ⌜ now (work .exit) ≡ sets (now (work .entry)) recordsOfNone (0 ∷ 0 ∷ 0 ∷ []) ⌝ }
     ensures arena { λ _. ⌜ Arena (now (work .exit)) 0 ⌝ }
 {
     work[RECORDS_OF] = 0;
