@@ -15,32 +15,15 @@ pub struct Reader {
     pub read: Read,
 }
 
-/// The answers of both Rust readers are structures with the same fields.
+/// Both Rust readers have functions of the same names.
 macro_rules! rust_reader {
     ($name:ident) => {
         Reader {
             name: stringify!($name),
             check: |table| $name::check(table).into(),
-            report: |table| {
-                let report = $name::report(table);
-                [
-                    report.code,
-                    report.place,
-                    report.may_be_empty,
-                    report.left_recursive,
-                    report.how_many,
-                    report.lowest,
-                ]
-            },
+            report: |table| $name::report(table).numbers(),
             read: |table, line, allowance, work, room, whole| {
-                let answer = $name::read(table, line, allowance, work, room, whole);
-                [
-                    answer.code,
-                    answer.place,
-                    answer.matched,
-                    answer.visits,
-                    answer.records,
-                ]
+                $name::read(table, line, allowance, work, room, whole).numbers()
             },
         }
     };

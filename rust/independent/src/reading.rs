@@ -18,6 +18,19 @@ pub struct Answer {
     pub records: u64,
 }
 
+impl Answer {
+    /// In the order of the rules.
+    pub fn numbers(self) -> [u64; 5] {
+        [
+            self.code,
+            self.place,
+            self.matched,
+            self.visits,
+            self.records,
+        ]
+    }
+}
+
 /// A tree over this many records is not stored.
 const MOST_RECORDS: u64 = 1_000;
 
