@@ -12,7 +12,6 @@ mod formed;
 mod maker;
 mod random;
 mod records;
-mod sheet;
 mod soup;
 mod textbook;
 mod worked;
@@ -21,8 +20,6 @@ pub use command::{decode, Command, Lending};
 pub use desk::{run, Desk, Readers};
 pub use maker::{Cases, Tally};
 pub use random::Random;
-pub use sheet::Sheet;
-pub use textbook::{sheet_a, sheet_b, sum_sheet};
 pub use worked::text as worked_text;
 
 use maker::Maker;

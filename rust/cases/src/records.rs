@@ -1,12 +1,13 @@
 //! Trees that double: at the limit of a thousand records, over it, and past
 //! what 64 bits can count.
 
+use sheets::Sheet;
+
 use crate::maker::Maker;
-use crate::sheet::Sheet;
 
 pub fn add(maker: &mut Maker) {
     for rules in (1..=14).chain([31, 32, 33, 63, 64]) {
-        maker.table(&each_the_next_twice(rules).table());
+        maker.table(&each_the_next_twice(rules).bytes());
         ask(maker, &[b"", b"a"], 400);
     }
     let exact = [
@@ -17,19 +18,19 @@ pub fn add(maker: &mut Maker) {
         .into_iter()
         .flat_map(|power| [power - 1, power, power + 1, power + 7]);
     for records in exact.into_iter().chain(around) {
-        maker.table(&exactly(records, false).table());
+        maker.table(&exactly(records, false).bytes());
         ask(maker, &[b"", b"a"], 600);
     }
     for records in [10, 500, 999, 1_000, 1_001, 1_002] {
-        maker.table(&exactly(records, true).table());
+        maker.table(&exactly(records, true).bytes());
         ask(maker, &[b""], 14_000);
     }
     for steps in (1..=12).chain([30, 31, 32, 33, 40, 60]) {
-        maker.table(&held_four_times(steps).table());
+        maker.table(&held_four_times(steps).bytes());
         ask(maker, &[b"a", b"aa", b"b"], 4_000);
     }
     for steps in [1, 2, 3, 4, 10] {
-        maker.table(&nested_by_growth(steps).table());
+        maker.table(&nested_by_growth(steps).bytes());
         maker.report();
         for length in [1, 2, 9, 50] {
             maker.line(&vec![b'a'; length]);
@@ -177,7 +178,7 @@ fn many_records_over_a_line(maker: &mut Maker) {
     let root = grown.choice(longer, a);
     grown.root(root);
     for (sheet, allowance) in [(repeated, 3_000), (grown, 2_000)] {
-        maker.table(&sheet.table());
+        maker.table(&sheet.bytes());
         for length in [1, 100, 249, 250, 251, 254, 255, 256] {
             maker.line(&vec![b'a'; length]);
             maker.read_with_enough(false, allowance, 5_005);
@@ -185,7 +186,7 @@ fn many_records_over_a_line(maker: &mut Maker) {
         }
     }
     // S <- W 'a' / 'a'; W <- V; V <- U; U <- S: four records a byte by growth.
-    maker.table(&nested_by_growth(3).table());
+    maker.table(&nested_by_growth(3).bytes());
     for length in [200, 250, 251, 255] {
         maker.line(&vec![b'a'; length]);
         maker.read_with_enough(true, 10_000, 5_005);
@@ -199,7 +200,7 @@ mod tests {
     fn records_of(sheet: &Sheet, line: &[u8], allowance: u64) -> independent::Answer {
         let mut work = vec![0; 200_000];
         let mut room = vec![0; 5_005];
-        independent::read(&sheet.table(), line, allowance, &mut work, &mut room, true)
+        independent::read(&sheet.bytes(), line, allowance, &mut work, &mut room, true)
     }
 
     #[test]

@@ -16,8 +16,9 @@ mod proved {
     use std::str::FromStr;
     use std::thread;
 
-    use cases::{decode, make, run, sheet_a, sheet_b, sum_sheet, Command, Lending, Readers};
+    use cases::{decode, make, run, Command, Lending, Readers};
     use koskorbelu::{face, stored_length, Answer, Tree};
+    use sheets::{sheet_a, sheet_b, sum};
 
     const SEED: u64 = 1;
     const COMMANDS: usize = 24_000;
@@ -125,12 +126,12 @@ mod proved {
             "9".to_string() + &"+9".repeat(128),
         ];
         for (sheet, allowance) in [
-            (sum_sheet(), 1_000_000),
-            (sum_sheet(), 300_000),
+            (sum(), 1_000_000),
+            (sum(), 300_000),
             (sheet_a(), 1_000_000),
             (sheet_a(), 1_000_001),
         ] {
-            let table = sheet.table();
+            let table = sheet.bytes();
             for line in &lines {
                 for whole in [false, true] {
                     let asked = Command::Read(Lending {
@@ -155,9 +156,9 @@ mod proved {
             (sheet_a(), "7+"),
             (sheet_b(), "1,5"),
             (sheet_b(), ",5"),
-            (sum_sheet(), "9-3-2*(4+1)"),
+            (sum(), "9-3-2*(4+1)"),
         ] {
-            let (table, line) = (sheet.table(), line.as_bytes());
+            let (table, line) = (sheet.bytes(), line.as_bytes());
             let (mut work, mut room) = (vec![7; 16_384], vec![7; 5_005]);
             let [code, place, matched, visits, records] =
                 face::read(&table, line, 2_500, &mut work, &mut room, true);
@@ -196,7 +197,7 @@ mod proved {
     fn empty_slices() {
         assert_eq!(face::check(&[]), [1, 0]);
         assert_eq!(face::report(&[]), [1, 0, 0, 0, 0, 64]);
-        let table = sheet_b().table();
+        let table = sheet_b().bytes();
         for whole in [false, true] {
             let numbers = face::read(&[], &[], 0, &mut [], &mut [], whole);
             assert_eq!(numbers, [1, 0, 0, 0, 0]);
@@ -223,7 +224,7 @@ mod proved {
     /// The wrapper lends enough for every line, the longest and deepest too.
     #[test]
     fn enough_is_lent() {
-        let table = sheet_a().table();
+        let table = sheet_a().bytes();
         for length in [1, 127, 255] {
             let line: Vec<u8> = b"7+".iter().copied().cycle().take(length).collect();
             for allowance in [1, 2_500, 1_000_000, u64::MAX] {
@@ -243,7 +244,7 @@ mod proved {
         let report = koskorbelu::report(&table).unwrap();
         assert_eq!((report.lowest, report.how_many), (Some(0), 1));
         assert!(!report.is_free());
-        let free = koskorbelu::report(&sheet_b().table()).unwrap();
+        let free = koskorbelu::report(&sheet_b().bytes()).unwrap();
         assert!(free.is_free() && free.lowest.is_none());
     }
 }

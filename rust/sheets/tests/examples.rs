@@ -4,7 +4,7 @@
 use std::fs;
 use std::path::{Path, PathBuf};
 
-use cases::Sheet;
+use sheets::Sheet;
 
 /// What the classroom program lends for each line.
 const ALLOWANCE: u64 = 2_500;
@@ -42,7 +42,7 @@ fn answer(table: &[u8], line: &str) -> (String, Vec<u8>) {
 fn table_files_are_those_of_the_sheets() {
     for (folder, sheet) in sheets::all() {
         let table = fs::read(file(folder, "class.gram")).unwrap();
-        assert!(table == sheet.table(), "{folder}: run sheets");
+        assert!(table == sheet.bytes(), "{folder}: run sheets");
         assert_eq!(independent::check(&table), (0, 0), "{folder}");
     }
 }
@@ -50,7 +50,7 @@ fn table_files_are_those_of_the_sheets() {
 #[test]
 fn expected_answers() {
     for (folder, sheet) in sheets::all() {
-        let table = sheet.table();
+        let table = sheet.bytes();
         let answers: String = text(folder, "lines.txt")
             .lines()
             .map(|line| answer(&table, line).0 + "\n")
@@ -61,7 +61,7 @@ fn expected_answers() {
 
 /// Rule, start and end of each record, in stored order.
 fn records(sheet: Sheet, line: &str) -> Vec<(u8, u8, u8)> {
-    let (printed, room) = answer(&sheet.table(), line);
+    let (printed, room) = answer(&sheet.bytes(), line);
     assert!(printed.starts_with("READ "), "{line}: {printed}");
     let count = usize::from(room[3]) * 256 + usize::from(room[4]);
     let stored = room[5..].chunks(5).take(count);
@@ -87,7 +87,7 @@ fn sums_group_from_the_left() {
 #[test]
 fn reports() {
     for (folder, sheet) in sheets::all() {
-        let report = independent::report(&sheet.table());
+        let report = independent::report(&sheet.bytes());
         let left_recursive = if folder == "sum" { 0b11 } else { 0 };
         assert_eq!(report.left_recursive, left_recursive, "{folder}");
         assert_eq!(report.may_be_empty, 0, "{folder}");
