@@ -13,14 +13,14 @@ pub fn add(maker: &mut Maker) {
 }
 
 /// `child` under so many sequences with an empty first: each opens one visit.
-fn padded(sheet: &mut Sheet, child: u16, pads: usize) -> u16 {
+pub fn padded(sheet: &mut Sheet, child: u16, pads: usize) -> u16 {
     let nothing = sheet.empty();
     (0..pads).fold(child, |inner, _| sheet.sequence(nothing, inner))
 }
 
 /// S <- pads T; T <- 'a' T / empty. Three visits deeper with each byte, so
 /// three pads reach every depth.
-fn right_recursive(pads: usize, not_free: bool) -> Sheet {
+pub fn right_recursive(pads: usize, not_free: bool) -> Sheet {
     let mut sheet = Sheet::new();
     let t = sheet.rule(1);
     let root = padded(&mut sheet, t, pads);

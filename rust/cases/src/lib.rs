@@ -10,6 +10,7 @@ mod deep;
 mod desk;
 mod formed;
 mod maker;
+pub mod program;
 mod random;
 mod records;
 mod soup;

@@ -76,7 +76,7 @@ pub fn each_the_next_twice(rules: u16) -> Sheet {
 
 /// A sheet whose reading has exactly so many records on every line: a root
 /// over empty trees. Not free on wish, by a rule that is never used.
-fn exactly(records: u128, not_free: bool) -> Sheet {
+pub fn exactly(records: u128, not_free: bool) -> Sheet {
     let mut sheet = Sheet::new();
     let nothing = sheet.empty();
     let one = sheet.rule(1);
@@ -157,19 +157,23 @@ fn nested_by_growth(steps: u16) -> Sheet {
     sheet
 }
 
+/// S <- C*; C <- D; D <- E; E <- F; F <- 'a': four records a byte.
+pub fn four_a_byte() -> Sheet {
+    let mut sheet = Sheet::new();
+    let uses: Vec<u16> = (1..=4).map(|rule| sheet.rule(rule)).collect();
+    let all = sheet.repetition(uses[0]);
+    let a = sheet.byte(b'a');
+    sheet.root(all);
+    sheet.root(uses[1]);
+    sheet.root(uses[2]);
+    sheet.root(uses[3]);
+    sheet.root(a);
+    sheet
+}
+
 /// Records made along a line rather than by doubling: with one rule more
 /// around each byte, four lengths around the limit.
 fn many_records_over_a_line(maker: &mut Maker) {
-    // S <- C*; C <- D; D <- E; E <- F; F <- 'a': four records a byte.
-    let mut repeated = Sheet::new();
-    let uses: Vec<u16> = (1..=4).map(|rule| repeated.rule(rule)).collect();
-    let all = repeated.repetition(uses[0]);
-    let a = repeated.byte(b'a');
-    repeated.root(all);
-    repeated.root(uses[1]);
-    repeated.root(uses[2]);
-    repeated.root(uses[3]);
-    repeated.root(a);
     // S <- S 'a' / 'a': one record a byte, nested as deep as the line.
     let mut grown = Sheet::new();
     let s = grown.rule(0);
@@ -177,7 +181,7 @@ fn many_records_over_a_line(maker: &mut Maker) {
     let longer = grown.sequence(s, a);
     let root = grown.choice(longer, a);
     grown.root(root);
-    for (sheet, allowance) in [(repeated, 3_000), (grown, 2_000)] {
+    for (sheet, allowance) in [(four_a_byte(), 3_000), (grown, 2_000)] {
         maker.table(&sheet.bytes());
         for length in [1, 100, 249, 250, 251, 254, 255, 256] {
             maker.line(&vec![b'a'; length]);

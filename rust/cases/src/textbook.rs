@@ -262,7 +262,7 @@ fn repetition_over_trees_not_free() -> Sheet {
     with_unused_left_recursion(repetition_over_trees())
 }
 
-fn with_unused_left_recursion(mut sheet: Sheet) -> Sheet {
+pub fn with_unused_left_recursion(mut sheet: Sheet) -> Sheet {
     let own = sheet.roots.len() as u16;
     let used = sheet.rule(own);
     sheet.root(used);

@@ -1,12 +1,13 @@
 //! How a line is read.
 
 use std::collections::HashMap;
+use std::fmt;
 use std::rc::Rc;
 
 use crate::report::is_free;
 use crate::stored::{store, stored_length};
 use crate::table::{open, Node, Table};
-use crate::{Refusal, ALLOW, DEEP, EFFORT, FAIL, LINE, READ, RECORDS, REST, ROOM, WORK};
+use crate::{names, Refusal, ALLOW, DEEP, EFFORT, FAIL, LINE, READ, RECORDS, REST, ROOM, WORK};
 
 /// What a reading returns.
 #[derive(Clone, Copy, Debug, PartialEq, Eq)]
@@ -28,6 +29,19 @@ impl Answer {
             self.visits,
             self.records,
         ]
+    }
+}
+
+/// As the classroom program prints it.
+impl fmt::Display for Answer {
+    fn fmt(&self, f: &mut fmt::Formatter) -> fmt::Result {
+        let name = names(self.code).expect("a code has a name");
+        if self.code == READ {
+            let (matched, visits, records) = (self.matched, self.visits, self.records);
+            write!(f, "{name} {matched} {visits} {records}")
+        } else {
+            write!(f, "{name} {} {}", self.place, self.visits)
+        }
     }
 }
 

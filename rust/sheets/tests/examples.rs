@@ -26,16 +26,7 @@ fn answer(table: &[u8], line: &str) -> (String, Vec<u8>) {
     let (mut work, mut room) = (vec![0; WORK], vec![0; ROOM]);
     let line = line.as_bytes();
     let answer = independent::read(table, line, ALLOWANCE, &mut work, &mut room, true);
-    let name = independent::names(answer.code).unwrap();
-    let printed = if answer.code == independent::READ {
-        format!(
-            "{name} {} {} {}",
-            answer.matched, answer.visits, answer.records
-        )
-    } else {
-        format!("{name} {} {}", answer.place, answer.visits)
-    };
-    (printed, room)
+    (answer.to_string(), room)
 }
 
 #[test]
