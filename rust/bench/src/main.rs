@@ -332,3 +332,21 @@ fn median(mut times: Vec<f64>) -> f64 {
         (times[half - 1] + times[half]) / 2.0
     }
 }
+
+#[cfg(test)]
+mod tests {
+    use super::*;
+
+    /// Readers that differ are not compared by the clock.
+    #[test]
+    fn the_readers_agree() {
+        let readers = readers();
+        for sheet in class_sheets() {
+            agree(&readers, &sheet, &mut Lent::new(WORK));
+        }
+        for (sheet, _) in lines_by_the_visit() {
+            let work = sheet.cleared(&sheet.lines[0]);
+            agree(&readers, &sheet, &mut Lent::new(work));
+        }
+    }
+}

@@ -206,7 +206,8 @@ mod proved {
         }
     }
 
-    /// The deepest readings too fit in half a megabyte.
+    /// The deepest readings too fit in KOS_STACK of the header, with what a thread
+    /// and the desk take beside it.
     #[test]
     fn a_small_stack_is_enough() {
         let stream = make(SEED).stdin;
@@ -216,7 +217,7 @@ mod proved {
             read: face::read,
             well_formed: Readers::independent().well_formed,
         };
-        let small = thread::Builder::new().stack_size(512 * 1024);
+        let small = thread::Builder::new().stack_size(98_304 + 32 * 1024);
         let answering = small.spawn(move || run(&stream, readers)).unwrap();
         assert!(!answering.join().unwrap().is_empty());
     }

@@ -244,7 +244,7 @@ fn in_visits(sheet: &mut Sheet, visits: u64) -> u16 {
 /// A sheet that reads an empty line in so many visits, at least ten.
 fn reading_in(visits: u64) -> Sheet {
     let mut sheet = Sheet::new();
-    if visits % 2 == 0 {
+    if visits.is_multiple_of(2) {
         // S <- X, where nothing is kept: two attempts.
         let root = in_visits(&mut sheet, visits / 2);
         sheet.root(root);
