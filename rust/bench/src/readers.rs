@@ -1,12 +1,11 @@
 //! The readers under the clock, as plain function pointers.
 
+use cases::Read;
+
 /// Code and place.
 type Check = fn(&[u8]) -> [u64; 2];
 /// Code, place, may be empty, left-recursive, how many, lowest.
 type Report = fn(&[u8]) -> [u64; 6];
-/// Table, line, allowance, working numbers, room, whole; gives code, place,
-/// matched, visits, records.
-type Read = fn(&[u8], &[u8], u64, &mut [u32], &mut [u8], bool) -> [u64; 5];
 
 pub struct Reader {
     pub name: &'static str,

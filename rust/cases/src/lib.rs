@@ -18,9 +18,10 @@ mod textbook;
 mod worked;
 
 pub use command::{decode, Command, Lending};
-pub use desk::{run, Desk, Readers};
+pub use desk::{run, Desk, Read, Readers};
 pub use maker::{Cases, Tally};
 pub use random::Random;
+pub use textbook::dear_sums;
 pub use worked::text as worked_text;
 
 use maker::Maker;

@@ -519,6 +519,17 @@ pub fn examples() -> Vec<Example> {
     ]
 }
 
+/// Sums that take more visits than the commands of the stream can allow.
+pub fn dear_sums() -> Vec<String> {
+    vec![
+        "((1+2)*(3-4)+5)*6-(7)".to_string(),
+        "(((((1)))))".to_string(),
+        "1+2*3-4+".repeat(31),
+        "9".to_string() + &"+9".repeat(127),
+        "9".to_string() + &"+9".repeat(128),
+    ]
+}
+
 pub fn add(maker: &mut Maker) {
     for example in examples() {
         maker.table(&example.sheet.bytes());

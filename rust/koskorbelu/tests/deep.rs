@@ -16,7 +16,7 @@ mod proved {
     use std::str::FromStr;
     use std::thread;
 
-    use cases::{decode, make, run, Command, Lending, Readers};
+    use cases::{dear_sums, decode, make, run, Command, Lending, Read, Readers};
     use koskorbelu::{face, stored_length, Answer, Tree};
     use sheets::{sheet_a, sheet_b, sum};
 
@@ -96,9 +96,6 @@ mod proved {
         }
     }
 
-    /// A reading: table, line, allowance, working numbers, room, whole.
-    type Read = fn(&[u8], &[u8], u64, &mut [u32], &mut [u8], bool) -> [u64; 5];
-
     /// The five numbers, and what is then in the working numbers and the room.
     type Left = ([u64; 5], Vec<u32>, Vec<u8>);
 
@@ -118,13 +115,6 @@ mod proved {
     /// Allowances whose working numbers the commands cannot lend.
     #[test]
     fn large_allowances() {
-        let lines = [
-            "((1+2)*(3-4)+5)*6-(7)".to_string(),
-            "(((((1)))))".to_string(),
-            "1+2*3-4+".repeat(31),
-            "9".to_string() + &"+9".repeat(127),
-            "9".to_string() + &"+9".repeat(128),
-        ];
         for (sheet, allowance) in [
             (sum(), 1_000_000),
             (sum(), 300_000),
@@ -132,7 +122,7 @@ mod proved {
             (sheet_a(), 1_000_001),
         ] {
             let table = sheet.bytes();
-            for line in &lines {
+            for line in &dear_sums() {
                 for whole in [false, true] {
                     let asked = Command::Read(Lending {
                         whole,

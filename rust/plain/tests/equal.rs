@@ -1,7 +1,7 @@
 //! The baseline answers every case as the independent reader does, buffers
 //! included.
 
-use cases::{make, run, Readers, SEED};
+use cases::{dear_sums, make, run, Readers, SEED};
 use sheets::{sheet_a, sum};
 
 fn plain_readers() -> Readers {
@@ -42,15 +42,9 @@ fn other_seeds() {
 /// The largest allowances, whose working numbers the kept cases cannot lend.
 #[test]
 fn large_allowances() {
-    let sums = [
-        "((1+2)*(3-4)+5)*6-(7)".to_string(),
-        "(((((1)))))".to_string(),
-        "1+2*3-4+".repeat(31),
-        "9".to_string() + &"+9".repeat(127),
-    ];
     for (sheet, allowance) in [(sum(), 1_000_000), (sum(), 300_000), (sheet_a(), 1_000_000)] {
         let table = sheet.bytes();
-        for line in &sums {
+        for line in &dear_sums() {
             for whole in [false, true] {
                 let given = answer(plain_readers(), &table, line.as_bytes(), allowance, whole);
                 let expected = answer(

@@ -55,13 +55,13 @@ impl fmt::Display for Fault {
                 let last = rules - 1;
                 write!(
                     f,
-                    "node {node} uses rule {rule}, and only rules 0 to {last} have a root"
+                    "node {node} uses rule {rule}, and the last rule with a root is rule {last}"
                 )
             }
             Fault::Child { node, child } => {
                 write!(
                     f,
-                    "node {node} has the child {child}, which is not made before it"
+                    "node {node} has the child {child}, which was not made before it"
                 )
             }
             Fault::Range {
@@ -152,7 +152,7 @@ mod tests {
         );
         assert_eq!(
             said(|sheet| sheet.roots.pop()),
-            "node 0 uses rule 1, and only rules 0 to 0 have a root"
+            "node 0 uses rule 1, and the last rule with a root is rule 0"
         );
     }
 
@@ -160,11 +160,11 @@ mod tests {
     fn nodes() {
         assert_eq!(
             said(|sheet| sheet.not(8)),
-            "node 6 has the child 8, which is not made before it"
+            "node 6 has the child 8, which was not made before it"
         );
         assert_eq!(
             said(|sheet| sheet.sequence(0, 6)),
-            "node 6 has the child 6, which is not made before it"
+            "node 6 has the child 6, which was not made before it"
         );
         assert_eq!(
             said(|sheet| sheet.range(b'9', b'0')),

@@ -45,8 +45,8 @@ pub type Node = (u8, u16, u16);
 /// assert_eq!(table.len(), 7 + 2 * 2 + 5 * 7);
 ///
 /// sheet.rule(2);
-/// let fault = sheet.table().unwrap_err();
-/// assert_eq!(fault.to_string(), "node 7 uses rule 2, and only rules 0 to 1 have a root");
+/// let fault = sheet.table().unwrap_err().to_string();
+/// assert_eq!(fault, "node 7 uses rule 2, and the last rule with a root is rule 1");
 /// ```
 #[derive(Clone, Debug, Default, PartialEq, Eq)]
 pub struct Sheet {

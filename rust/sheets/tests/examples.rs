@@ -69,6 +69,26 @@ fn a_comma_splits_or_groups() {
 }
 
 #[test]
+fn a_power_has_a_number_and_a_unit() {
+    let power = records(sheets::kilowatts(), "1,5 kW").into_iter();
+    let without_digits: Vec<_> = power.filter(|record| record.0 != 4).collect();
+    let number = [(2, 0, 1), (3, 2, 3), (1, 0, 3)];
+    assert_eq!(without_digits[..3], number);
+    assert_eq!(without_digits[3..], [(5, 4, 6), (0, 0, 6)]);
+}
+
+#[test]
+fn digits_of_a_power() {
+    let table = sheets::kilowatts().bytes();
+    for power in ["0 W", "123456 W", "123456,789 kW", "0,1 W"] {
+        assert!(answer(&table, power).0.starts_with("READ "), "{power}");
+    }
+    for other in ["1234567 W", "0,1250 kW", "1, kW", ",5 kW", "1  W", "kW", ""] {
+        assert!(answer(&table, other).0.starts_with("FAIL "), "{other}");
+    }
+}
+
+#[test]
 fn sums_group_from_the_left() {
     let sums = records(sheets::sum(), "9-3-2").into_iter();
     let sums: Vec<_> = sums.filter(|record| record.0 == 0).collect();
