@@ -35,8 +35,12 @@ static const uint8_t SHEET_B[] = {
     1, 0, 48, 0, 57,      /* 5 a digit */
 };
 static const uint8_t NOT_ITSELF[] = {
-    1, 0, 29, 0, 4, 0, 1, 0, 3,                                                    /* S <- !S 'a' */
-    2, 0, 0, 0, 0, 5, 0, 0, 0, 0, 1, 0, 97, 0, 97, 3, 0, 1, 0, 2,
+    1, 0, 29, 0, 4, 0, 1, /* S <- !S 'a': version, length, four nodes, one rule */
+    0, 3,                 /* its root */
+    2, 0, 0, 0, 0,        /* 0 rule 0 */
+    5, 0, 0, 0, 0,        /* 1 not 0 */
+    1, 0, 97, 0, 97,      /* 2 'a' */
+    3, 0, 1, 0, 2,        /* 3 sequence 1 2 */
 };
 
 /* Stored readings: A on 7+2, A on 7, B on 1,5, B on 1, S <- !S 'a' on a. */
@@ -175,23 +179,22 @@ static void report(const uint8_t *table, size_t length, uint64_t code, uint64_t 
     ask(kos_report, table, length, due, KOS_REPORT_NUMBERS);
 }
 
-/* A reading: what is asked and lent, and what is due. */
+/* A reading: what is asked, and what is due. */
 struct reading {
     const uint8_t *table;
     size_t table_length;
     const char *line;
-    size_t line_length;
     int whole;
     uint64_t allowance;
-    size_t work, room; /* how many are lent */
-    uint64_t due[KOS_READ_NUMBERS];
+    const uint64_t *due;
     const uint8_t *stored; /* with READ */
 };
+#define DUE(...) ((const uint64_t[]){__VA_ARGS__})
 
 static size_t work_needed(const struct reading *asked)
 {
     size_t nodes = asked->table_length < 5 ? 0 : (size_t)asked->table[3] << 8 | asked->table[4];
-    return KOS_WORK_NEEDED(asked->allowance, nodes, asked->line_length);
+    return KOS_WORK_NEEDED(asked->allowance, nodes, strlen(asked->line));
 }
 
 static void must_leave(const struct reading *asked, struct slice work, struct slice room)
@@ -205,30 +208,21 @@ static void must_leave(const struct reading *asked, struct slice work, struct sl
     must(is_as_found(room, stored), "room changed");
 }
 
-static void read_lent(const struct reading *asked)
+/* The reading with so many working numbers and so much room. */
+static void read_lent(struct reading asked, size_t work_length, size_t room_length)
 {
-    struct slice table = lend_bytes(asked->table, asked->table_length);
-    struct slice line = lend_bytes((const uint8_t *)asked->line, asked->line_length);
-    struct slice work = lend(4 * asked->work), room = lend(asked->room), answer = lend(8 * KOS_READ_NUMBERS);
-    (asked->whole ? kos_read_whole : kos_read_prefix)(
-        table.at, table.length, line.at, line.length, asked->allowance,
-        (uint32_t *)(void *)work.at, asked->work, room.at, room.length, (uint64_t *)(void *)answer.at);
-    must_answer(answer, asked->due);
-    must_leave(asked, work, room);
+    struct slice table = lend_bytes(asked.table, asked.table_length);
+    struct slice line = lend_bytes((const uint8_t *)asked.line, strlen(asked.line));
+    struct slice work = lend(4 * work_length), room = lend(room_length), answer = lend(8 * KOS_READ_NUMBERS);
+    (asked.whole ? kos_read_whole : kos_read_prefix)(
+        table.at, table.length, line.at, line.length, asked.allowance,
+        (uint32_t *)(void *)work.at, work_length, room.at, room_length, (uint64_t *)(void *)answer.at);
+    must_answer(answer, asked.due);
+    must_leave(&asked, work, room);
     give_back(table);
     give_back(line);
     give_back(work);
     give_back(room);
-}
-
-/* With exactly the working numbers and the room that are needed, then with some more of either. */
-static void read_exact(struct reading asked)
-{
-    for (size_t more = 0; more <= 3; more += 3) {
-        asked.work = work_needed(&asked) + more;
-        asked.room = KOS_STORED_LENGTH(asked.due[KOS_AT_RECORDS]) + more;
-        read_lent(&asked);
-    }
 }
 
 /* The sheet at hand. */
@@ -242,30 +236,22 @@ static void take(const uint8_t *table, size_t length)
 }
 #define TAKE(table) take(table, sizeof(table))
 
-static struct reading asked(const char *name, const char *line, int whole, uint64_t allowance)
+static struct reading asked(const char *name, const char *line, int whole, uint64_t allowance, const uint64_t *due,
+                            const uint8_t *stored)
 {
-    struct reading reading = {sheet, sheet_length, line, strlen(line), whole, allowance, 0, 0, {0}, NULL};
+    struct reading reading = {sheet, sheet_length, line, whole, allowance, due, stored};
     now = name;
     return reading;
 }
 
-static void reads(const char *name, const char *line, int whole, uint64_t allowance, uint64_t matched, uint64_t visits,
-                  uint64_t records, const uint8_t *stored)
+/* With exactly the working numbers and the room that are needed, then with some more of either. */
+static void reads(const char *name, const char *line, int whole, uint64_t allowance, const uint64_t *due,
+                  const uint8_t *stored)
 {
-    struct reading reading = asked(name, line, whole, allowance);
-    uint64_t due[] = {KOS_READ, 0, matched, visits, records};
-    memcpy(reading.due, due, sizeof due);
-    reading.stored = stored;
-    read_exact(reading);
-}
-
-static void refuses(const char *name, const char *line, int whole, uint64_t allowance, uint64_t code, uint64_t place,
-                    uint64_t matched, uint64_t visits, uint64_t records)
-{
-    struct reading reading = asked(name, line, whole, allowance);
-    uint64_t due[] = {code, place, matched, visits, records};
-    memcpy(reading.due, due, sizeof due);
-    read_exact(reading);
+    struct reading reading = asked(name, line, whole, allowance, due, stored);
+    size_t work = work_needed(&reading), room = KOS_STORED_LENGTH(due[KOS_AT_RECORDS]);
+    read_lent(reading, work, room);
+    read_lent(reading, work + 3, room + 3);
 }
 
 static void worked_lines(void)
@@ -274,32 +260,32 @@ static void worked_lines(void)
     check(sheet, sheet_length, KOS_READ, 0);
     report(sheet, sheet_length, KOS_READ, 0, 0, 1, 1, 0);
     for (int whole = 0; whole <= 1; whole++) {
-        reads("A on 7+2", "7+2", whole, 2500, 3, 22, 4, A_TWO);
-        reads("A on 7+2, allowance 22", "7+2", whole, 22, 3, 22, 4, A_TWO);
-        refuses("A on 7+2, allowance 21", "7+2", whole, 21, KOS_EFFORT, 0, 0, 21, 0);
-        reads("A on 7", "7", whole, 2500, 1, 14, 2, A_ONE);
-        refuses("A on an empty line", "", whole, 2500, KOS_FAIL, 0, 0, 5, 0);
-        refuses("A on +", "+", whole, 2500, KOS_FAIL, 0, 0, 5, 0);
+        reads("A on 7+2", "7+2", whole, 2500, DUE(KOS_READ, 0, 3, 22, 4), A_TWO);
+        reads("A on 7+2, allowance 22", "7+2", whole, 22, DUE(KOS_READ, 0, 3, 22, 4), A_TWO);
+        reads("A on 7+2, allowance 21", "7+2", whole, 21, DUE(KOS_EFFORT, 0, 0, 21, 0), NULL);
+        reads("A on 7", "7", whole, 2500, DUE(KOS_READ, 0, 1, 14, 2), A_ONE);
+        reads("A on an empty line", "", whole, 2500, DUE(KOS_FAIL, 0, 0, 5, 0), NULL);
+        reads("A on +", "+", whole, 2500, DUE(KOS_FAIL, 0, 0, 5, 0), NULL);
     }
-    reads("A on 7+, prefix", "7+", 0, 2500, 1, 16, 2, A_ONE);
-    refuses("A on 7+, whole", "7+", 1, 2500, KOS_REST, 1, 1, 16, 0);
+    reads("A on 7+, prefix", "7+", 0, 2500, DUE(KOS_READ, 0, 1, 16, 2), A_ONE);
+    reads("A on 7+, whole", "7+", 1, 2500, DUE(KOS_REST, 1, 1, 16, 0), NULL);
 
     TAKE(SHEET_B);
     check(sheet, sheet_length, KOS_READ, 0);
     report(sheet, sheet_length, KOS_READ, 0, 0, 0, 0, 64);
     for (int whole = 0; whole <= 1; whole++) {
-        reads("B on 1,5", "1,5", whole, 49, 3, 8, 3, B_PAIR);
-        reads("B on 1", "1", whole, 2500, 1, 7, 2, B_ONE);
+        reads("B on 1,5", "1,5", whole, 49, DUE(KOS_READ, 0, 3, 8, 3), B_PAIR);
+        reads("B on 1", "1", whole, 2500, DUE(KOS_READ, 0, 1, 7, 2), B_ONE);
     }
     uint8_t turned[sizeof SHEET_B];
     memcpy(turned, SHEET_B, sizeof turned);
     turned[33] = 0, turned[35] = 3; /* node 4: choice 0 3 */
     TAKE(turned);
-    refuses("B turned round on 1,5", "1,5", 1, 2500, KOS_REST, 1, 1, 3, 0);
+    reads("B turned round on 1,5", "1,5", 1, 2500, DUE(KOS_REST, 1, 1, 3, 0), NULL);
 
     TAKE(NOT_ITSELF);
     report(sheet, sheet_length, KOS_READ, 0, 0, 1, 1, 0);
-    reads("S <- !S 'a' on a", "a", 1, 2500, 1, 7, 1, NOT_ONE);
+    reads("S <- !S 'a' on a", "a", 1, 2500, DUE(KOS_READ, 0, 1, 7, 1), NOT_ONE);
 }
 
 /* The records of rules that double: the tree of a rule, at 0 to 0. Gives where the next record goes. */
@@ -312,7 +298,7 @@ static uint8_t *put_doubled(uint8_t *at, size_t rule, size_t last)
 }
 
 /* So many rules, each the next one twice, the last empty. */
-static void doubling(size_t rules)
+static void take_doubling(size_t rules)
 {
     static struct table table;
     memset(&table, 0, sizeof table);
@@ -329,11 +315,11 @@ static void doubling_rules(void)
 {
     static uint8_t stored[2560] = {1, 10, 0, 1, 255};
     put_doubled(stored + 5, 0, 8);
-    doubling(9);
+    take_doubling(9);
     report(sheet, sheet_length, KOS_READ, 0, 511, 0, 0, 64);
-    reads("nine rules that double", "", 1, 2500, 0, 25, 511, stored);
-    doubling(10);
-    refuses("ten rules that double", "", 1, 2500, KOS_RECORDS, 0, 0, 28, 1001);
+    reads("nine rules that double", "", 1, 2500, DUE(KOS_READ, 0, 0, 25, 511), stored);
+    take_doubling(10);
+    reads("ten rules that double", "", 1, 2500, DUE(KOS_RECORDS, 0, 0, 28, 1001), NULL);
 }
 
 /* A on 7+7+..7, 255 bytes: each digit is a D, and an S around it and the S before it. */
@@ -348,56 +334,37 @@ static void long_lines(void)
         memcpy(stored + 5 + 10 * digit, records, sizeof records);
     }
     TAKE(SHEET_A);
-    refuses("A on 256 bytes", line, 1, 2500, KOS_LINE, 0, 0, 0, 0);
+    reads("A on 256 bytes", line, 1, 2500, DUE(KOS_LINE, 0, 0, 0, 0), NULL);
     line[255] = 0;
-    reads("A on 255 bytes", line, 1, 1030, 255, 1030, 256, stored);
+    reads("A on 255 bytes", line, 1, 1030, DUE(KOS_READ, 0, 255, 1030, 256), stored);
 }
 
+/* A on 7+2 with an allowance of 22 needs 2,192 working numbers and 25 bytes of room. */
 static void limits_of_what_is_lent(void)
 {
+    const uint64_t *work = DUE(KOS_WORK, 0, 0, 0, 0), *room = DUE(KOS_ROOM, 3, 3, 22, 4);
+    const uint64_t *allow = DUE(KOS_ALLOW, 0, 0, 0, 0);
     TAKE(SHEET_A);
-    uint64_t none[] = {KOS_WORK, 0, 0, 0, 0}, no_room[] = {KOS_ROOM, 3, 3, 22, 4};
-    struct reading reading = asked("A on 7+2, a working number short", "7+2", 1, 22);
-    memcpy(reading.due, none, sizeof none);
-    reading.work = work_needed(&reading) - 1;
-    reading.room = sizeof A_TWO;
-    read_lent(&reading);
-    now = "A on 7+2, a byte of room short";
-    memcpy(reading.due, no_room, sizeof no_room);
-    reading.work++;
-    reading.room--;
-    read_lent(&reading);
-    now = "A on 7+2, no room";
-    reading.room = 0;
-    read_lent(&reading);
-    now = "A on 7+2, no working numbers";
-    memcpy(reading.due, none, sizeof none);
-    reading.work = 0;
-    read_lent(&reading);
-    static const uint64_t allowances[] = {0, 1000001, UINT64_MAX};
-    for (size_t i = 0; i < 3; i++) {
-        uint64_t due[] = {KOS_ALLOW, 0, 0, 0, 0};
-        reading = asked("A on 7, allowance out of range", "7", 1, allowances[i]);
-        memcpy(reading.due, due, sizeof due);
-        reading.work = 3000;
-        reading.room = 30;
-        read_lent(&reading);
-    }
+    read_lent(asked("a working number short", "7+2", 1, 22, work, NULL), 2191, 25);
+    read_lent(asked("no working numbers", "7+2", 1, 22, work, NULL), 0, 25);
+    read_lent(asked("a byte of room short", "7+2", 1, 22, room, NULL), 2192, 24);
+    read_lent(asked("no room", "7+2", 1, 22, room, NULL), 2192, 0);
+    read_lent(asked("allowance 0", "7", 1, 0, allow, NULL), 3000, 30);
+    read_lent(asked("allowance 1,000,001", "7", 1, 1000001, allow, NULL), 3000, 30);
+    read_lent(asked("allowance 2^64 - 1", "7", 1, UINT64_MAX, allow, NULL), 3000, 30);
 }
 
 /* A table that is refused is refused by all four, and nothing is changed. */
 static void refused(const char *name, const uint8_t *table, size_t length, uint64_t code, uint64_t place)
 {
+    const uint64_t *due = DUE(code, place, 0, 0, 0);
     now = name;
     check(table, length, code, place);
     report(table, length, code, place, 0, 0, 0, 64);
     take(table, length);
-    refuses(name, "7+2", 0, 22, code, place, 0, 0, 0);
-    refuses(name, "7+2", 1, 22, code, place, 0, 0, 0);
-    struct reading nothing = asked(name, "", 1, 0);
-    nothing.due[KOS_AT_CODE] = code;
-    nothing.due[KOS_AT_PLACE] = place;
-    read_lent(&nothing);
+    reads(name, "7+2", 0, 22, due, NULL);
+    reads(name, "7+2", 1, 22, due, NULL);
+    read_lent(asked(name, "", 1, 0, due, NULL), 0, 0);
 }
 
 /* Sheet A with two bytes at a place changed. */
@@ -419,9 +386,9 @@ static void refused_tables(void)
     refused("513 nodes", changed(3, 2, 1), length, KOS_COUNT, 0);
     refused("no rules", changed(5, 0, 0), length, KOS_COUNT, 0);
     refused("65 rules", changed(5, 0, 65), length, KOS_COUNT, 0);
+    refused("seven bytes", SHEET_A, 7, KOS_LENGTH, 0);
     refused("a byte short", SHEET_A, length - 1, KOS_LENGTH, 0);
     refused("a byte more", changed(0, 1, 0), length + 1, KOS_LENGTH, 0);
-    refused("seven bytes", SHEET_A, 7, KOS_LENGTH, 0);
     refused("root 7 of rule 1", changed(9, 0, 7), length, KOS_ROOT, 1);
     refused("kind 7 of node 3", changed(26, 7, 0), length, KOS_KIND, 3);
     refused("a child of node 4 not below it", changed(34, 0, 4), length, KOS_FIELD, 4);

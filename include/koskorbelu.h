@@ -15,8 +15,8 @@
  *
  * A table is a sheet in bytes; docs/FORMAT.md says which.
  *
- * The deepest call that we know takes KOS_STACK bytes of stack or less on
- * x86-64, with this kit's compiler: that is measured (c/stack.c), not proved.
+ * A call takes at most 98,304 bytes of stack (KOS_STACK) on x86-64 with this
+ * kit's compiler: that is measured (c/stack.c) and rounded up, not proved.
  * Nothing is allocated, kept between calls or shared: calls with buffers of
  * their own may run at the same time. The same arguments give the same answer.
  * What each function writes is proved in crates/koskorbelu.
@@ -89,7 +89,7 @@ enum kos_at {
 #define KOS_STORED_LENGTH(records) (5 + 5 * (size_t)(records))
 #define KOS_MOST_STORED 5005
 
-/* Bytes of stack, measured on x86-64 and rounded up; other machines differ. */
+/* Bytes of stack that a call takes at most, as measured on x86-64. */
 #define KOS_STACK 98304
 
 /*
