@@ -52,6 +52,7 @@ pub type Node = (u8, u16, u16);
 pub struct Sheet {
     /// The root of each rule.
     pub roots: Vec<u16>,
+    /// Each node at its number.
     pub nodes: Vec<Node>,
 }
 
