@@ -1,8 +1,8 @@
 /*
  * koskorbelu.h: the proved reader for left-recursive grammars, for C99 and C++.
  *
- * Link with the archive that scripts/native-archive makes; it needs memcpy and
- * memset of the C library and nothing else.
+ * Link with the archive that scripts/native-archive makes; of the C library it
+ * needs memset and nothing else.
  *
  * A slice is two arguments, a pointer and then its length in elements. An
  * answer is a pointer to a fixed number of uint64_t. No function asks anything
@@ -13,7 +13,10 @@
  *   - each is aligned for its element, and its elements belong to the caller;
  *   - a buffer that is written (work, room, answer) overlaps no other.
  *
- * Half a megabyte of stack is enough on x86-64: that is measured, not proved.
+ * A table is a sheet in bytes; docs/FORMAT.md says which.
+ *
+ * A call takes at most 98,304 bytes of stack (KOS_STACK) on x86-64 with this
+ * kit's compiler: that is measured (c/stack.c) and rounded up, not proved.
  * Nothing is allocated, kept between calls or shared: calls with buffers of
  * their own may run at the same time. The same arguments give the same answer.
  * What each function writes is proved in crates/koskorbelu.
@@ -85,6 +88,9 @@ enum kos_at {
 /* Bytes of a stored reading with so many records, and of the longest. */
 #define KOS_STORED_LENGTH(records) (5 + 5 * (size_t)(records))
 #define KOS_MOST_STORED 5005
+
+/* Bytes of stack that a call takes at most, as measured on x86-64. */
+#define KOS_STACK 98304
 
 /*
  * Whether the table is a sheet.

@@ -15,9 +15,10 @@ mod readers;
 use std::hint::black_box;
 use std::time::Instant;
 
-use cases::{sheet_a, sheet_b, sum_sheet, Random};
+use cases::Random;
 use koskorbelu::{work_needed, MOST_ALLOWANCE, MOST_STORED};
 use readers::{readers, Reader};
+use sheets::{decimal_comma, sheet_a, sheet_b, sum};
 
 /// What the program lends for each line.
 const ALLOWANCE: u64 = 2_500;
@@ -107,18 +108,18 @@ fn main() {
 /// Sheets A and B, and two tables of 512 nodes and 64 rules.
 fn report_tables() -> [(&'static str, Vec<u8>); 4] {
     [
-        ("sheet A", sheet_a().table()),
-        ("sheet B", sheet_b().table()),
-        ("full, none may be empty", full(false).table()),
-        ("full, all may be empty", full(true).table()),
+        ("sheet A", sheet_a().bytes()),
+        ("sheet B", sheet_b().bytes()),
+        ("full, none may be empty", full(false).bytes()),
+        ("full, all may be empty", full(true).bytes()),
     ]
 }
 
 /// 64 rules of 8 nodes: each is a byte, or has the next rule at its left end,
 /// the last one the first. If the last may be empty, so may all, and this is
 /// learnt one rule at a time.
-fn full(last_may_be_empty: bool) -> cases::Sheet {
-    let mut sheet = cases::Sheet::new();
+fn full(last_may_be_empty: bool) -> sheets::Sheet {
+    let mut sheet = sheets::Sheet::new();
     for rule in 0..64 {
         let to = sheet.rule((rule + 1) % 64);
         let again = sheet.rule((rule + 1) % 64);
@@ -158,16 +159,16 @@ fn print_reports(readers: &[Reader], table: &[u8]) {
 /// A thousand lines each, with what the program lends.
 fn class_sheets() -> [Sheet; 3] {
     let mut random = Random::new(2_500);
-    let mut make = |name, sheet: cases::Sheet, line: fn(&mut Random) -> Vec<u8>| Sheet {
+    let mut make = |name, sheet: sheets::Sheet, line: fn(&mut Random) -> Vec<u8>| Sheet {
         name,
-        table: sheet.table(),
+        table: sheet.bytes(),
         lines: (0..LINES).map(|_| line(&mut random)).collect(),
         allowance: ALLOWANCE,
     };
     [
         make("A", sheet_a(), lines::for_a),
         make("B", sheet_b(), lines::for_b),
-        make("sum", sum_sheet(), lines::for_sums),
+        make("sum", sum(), lines::for_sums),
     ]
 }
 
@@ -177,19 +178,15 @@ fn lines_by_the_visit() -> Vec<(Sheet, u64)> {
     let ones = |count: usize, between: &str| vec!["1"; count].join(between).into_bytes();
     let long = [
         ("sheet A", sheet_a(), ones(128, "+")),
-        ("sum", sum_sheet(), ones(8, "+")),
-        ("sum", sum_sheet(), ones(32, "+")),
-        ("sum", sum_sheet(), ones(128, "+")),
-        (
-            "decimal comma, free",
-            sheets::decimal_comma(),
-            ones(255, ""),
-        ),
+        ("sum", sum(), ones(8, "+")),
+        ("sum", sum(), ones(32, "+")),
+        ("sum", sum(), ones(128, "+")),
+        ("decimal comma, free", decimal_comma(), ones(255, "")),
     ];
     let with_visits = long.into_iter().map(|(name, sheet, line)| {
         let mut sheet = Sheet {
             name,
-            table: sheet.table(),
+            table: sheet.bytes(),
             lines: vec![line],
             allowance: MOST_ALLOWANCE,
         };
@@ -333,5 +330,23 @@ fn median(mut times: Vec<f64>) -> f64 {
         times[half]
     } else {
         (times[half - 1] + times[half]) / 2.0
+    }
+}
+
+#[cfg(test)]
+mod tests {
+    use super::*;
+
+    /// Readers that differ are not compared by the clock.
+    #[test]
+    fn the_readers_agree() {
+        let readers = readers();
+        for sheet in class_sheets() {
+            agree(&readers, &sheet, &mut Lent::new(WORK));
+        }
+        for (sheet, _) in lines_by_the_visit() {
+            let work = sheet.cleared(&sheet.lines[0]);
+            agree(&readers, &sheet, &mut Lent::new(work));
+        }
     }
 }

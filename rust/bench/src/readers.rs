@@ -1,12 +1,11 @@
 //! The readers under the clock, as plain function pointers.
 
+use cases::Read;
+
 /// Code and place.
 type Check = fn(&[u8]) -> [u64; 2];
 /// Code, place, may be empty, left-recursive, how many, lowest.
 type Report = fn(&[u8]) -> [u64; 6];
-/// Table, line, allowance, working numbers, room, whole; gives code, place,
-/// matched, visits, records.
-type Read = fn(&[u8], &[u8], u64, &mut [u32], &mut [u8], bool) -> [u64; 5];
 
 pub struct Reader {
     pub name: &'static str,
@@ -15,32 +14,15 @@ pub struct Reader {
     pub read: Read,
 }
 
-/// The answers of both Rust readers are structures with the same fields.
+/// Both Rust readers have functions of the same names.
 macro_rules! rust_reader {
     ($name:ident) => {
         Reader {
             name: stringify!($name),
             check: |table| $name::check(table).into(),
-            report: |table| {
-                let report = $name::report(table);
-                [
-                    report.code,
-                    report.place,
-                    report.may_be_empty,
-                    report.left_recursive,
-                    report.how_many,
-                    report.lowest,
-                ]
-            },
+            report: |table| $name::report(table).numbers(),
             read: |table, line, allowance, work, room, whole| {
-                let answer = $name::read(table, line, allowance, work, room, whole);
-                [
-                    answer.code,
-                    answer.place,
-                    answer.matched,
-                    answer.visits,
-                    answer.records,
-                ]
+                $name::read(table, line, allowance, work, room, whole).numbers()
             },
         }
     };

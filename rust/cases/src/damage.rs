@@ -1,8 +1,9 @@
 //! Damaged tables: every byte, every field, every length, and which damage
 //! is named first.
 
+use sheets::{Node, Sheet};
+
 use crate::maker::Maker;
-use crate::sheet::{Node, Sheet};
 use crate::textbook::examples;
 
 const MOST_NODES: usize = 512;
@@ -26,7 +27,7 @@ pub fn add(maker: &mut Maker) {
 
 /// The small example sheets.
 fn victims() -> Vec<Sheet> {
-    let small = |sheet: &Sheet| sheet.table().len() <= 46;
+    let small = |sheet: &Sheet| sheet.bytes().len() <= 46;
     examples()
         .into_iter()
         .map(|example| example.sheet)
@@ -56,7 +57,7 @@ fn ask_reading(maker: &mut Maker) {
 }
 
 fn each_byte(maker: &mut Maker, victim: &Sheet) {
-    let table = victim.table();
+    let table = victim.bytes();
     for at in 0..table.len() {
         let byte = table[at];
         let any = maker.random.below(256) as u8;
@@ -76,7 +77,7 @@ fn each_byte(maker: &mut Maker, victim: &Sheet) {
 /// Cut off at every byte, and with bytes too many; once with the written
 /// length as it was and once with the length of what is left.
 fn each_length(maker: &mut Maker, victim: &Sheet) {
-    let mut long = victim.table();
+    let mut long = victim.bytes();
     let length = long.len();
     long.extend([0, 1, 0, 0, 0, 0]);
     for cut in (0..=long.len()).filter(|&cut| cut != length) {
@@ -93,7 +94,7 @@ fn each_length(maker: &mut Maker, victim: &Sheet) {
 fn short_or_of_another_version(maker: &mut Maker, victims: &[Sheet]) {
     for length in 0..8 {
         for _ in 0..4 {
-            let table = pick(maker, victims).table();
+            let table = pick(maker, victims).bytes();
             ask(maker, &table[..length]);
         }
     }
@@ -101,7 +102,7 @@ fn short_or_of_another_version(maker: &mut Maker, victims: &[Sheet]) {
         0, 2, 3, 4, 7, 8, 16, 17, 32, 64, 65, 127, 128, 129, 254, 255,
     ] {
         for _ in 0..2 {
-            let mut table = pick(maker, victims).table();
+            let mut table = pick(maker, victims).bytes();
             table[0] = version;
             ask(maker, &table);
         }
@@ -114,7 +115,7 @@ fn each_root(maker: &mut Maker, victim: &Sheet) {
         for root in [n - 1, n, n + 1, 255, 256, 65_535] {
             let mut damaged = victim.clone();
             damaged.roots[rule] = root;
-            ask(maker, &damaged.table());
+            ask(maker, &damaged.bytes());
         }
     }
 }
@@ -126,7 +127,7 @@ fn each_field(maker: &mut Maker, victim: &Sheet) {
         for (a, b) in field_edges(kind, a, b, number as u16, r) {
             let mut damaged = victim.clone();
             damaged.nodes[number] = (kind, a, b);
-            ask(maker, &damaged.table());
+            ask(maker, &damaged.bytes());
         }
     }
 }
@@ -183,14 +184,14 @@ fn every_kind(maker: &mut Maker, victims: &[Sheet]) {
         let mut damaged = pick(maker, victims);
         let number = maker.random.below(damaged.nodes.len() as u64) as usize;
         damaged.nodes[number].0 = kind;
-        ask(maker, &damaged.table());
+        ask(maker, &damaged.bytes());
     }
 }
 
 /// Two or three bytes or nodes wrong together: the first in order is named.
 fn several_at_once(maker: &mut Maker, victims: &[Sheet]) {
     for _ in 0..250 {
-        let mut damaged = pick(maker, victims).table();
+        let mut damaged = pick(maker, victims).bytes();
         for _ in 0..maker.random.between(2, 3) {
             let at = maker.random.below(damaged.len() as u64) as usize;
             damaged[at] = maker.random.pick(&[0, 1, 2, 7, 9, 64, 65, 128, 255]);
@@ -205,7 +206,7 @@ fn several_at_once(maker: &mut Maker, victims: &[Sheet]) {
                 damaged.nodes[number] = wrong;
             }
         }
-        ask(maker, &damaged.table());
+        ask(maker, &damaged.bytes());
     }
 }
 
@@ -226,7 +227,7 @@ fn counts(maker: &mut Maker) {
             if n > 2 && (1..MOST_RULES - 1).contains(&r) {
                 continue;
             }
-            let table = plain(n, r, (1, 97, 98)).table();
+            let table = plain(n, r, (1, 97, 98)).bytes();
             maker.table(&table);
             maker.check();
             maker.report();
@@ -243,7 +244,7 @@ fn counts(maker: &mut Maker) {
         (1, 65_535),
         (512, 64),
     ] {
-        let mut table = plain(2, 2, (0, 0, 0)).table();
+        let mut table = plain(2, 2, (0, 0, 0)).bytes();
         table[3..5].copy_from_slice(&(n as u16).to_be_bytes());
         table[5..7].copy_from_slice(&(r as u16).to_be_bytes());
         ask(maker, &table);
@@ -256,7 +257,7 @@ fn counts(maker: &mut Maker) {
 fn order_of_the_checks(maker: &mut Maker, victims: &[Sheet]) {
     let lines: [&[u8]; 3] = [b"7", &[b'a'; 255], &[b'a'; 256]];
     for victim in victims {
-        let good = victim.table();
+        let good = victim.bytes();
         let mut bad = good.clone();
         let at = maker.random.below(bad.len() as u64) as usize;
         bad[at] ^= 0xC0;
@@ -285,5 +286,40 @@ mod tests {
             let mut nodes = victims.iter().flat_map(|victim| &victim.nodes);
             assert!(nodes.any(|node| node.0 == kind), "kind {kind}");
         }
+    }
+
+    /// What a person is told of a sheet agrees with the check of its table.
+    #[test]
+    fn a_sheet_has_a_fault_exactly_if_its_table_is_refused() {
+        let mut seen = [0; 2];
+        let mut look = |sheet: &Sheet| {
+            let accepted = independent::check(&sheet.bytes()) == (independent::READ, 0);
+            assert_eq!(sheet.table().is_ok(), accepted, "{sheet:?}");
+            seen[usize::from(accepted)] += 1;
+        };
+        for victim in victims() {
+            let rules = victim.roots.len() as u16;
+            for (number, &(kind, a, b)) in victim.nodes.iter().enumerate() {
+                for kind in [kind, 0, 1, 2, 3, 4, 5, 6, 7, 255] {
+                    for (a, b) in field_edges(kind, a, b, number as u16, rules) {
+                        let mut damaged = victim.clone();
+                        damaged.nodes[number] = (kind, a, b);
+                        look(&damaged);
+                    }
+                }
+                for rule in 0..victim.roots.len() {
+                    let mut damaged = victim.clone();
+                    damaged.roots[rule] = (number + 1) as u16;
+                    look(&damaged);
+                }
+            }
+        }
+        for (nodes, rules) in [(0, 0), (0, 1), (1, 0), (1, 64), (1, 65), (512, 1), (513, 1)] {
+            look(&Sheet {
+                roots: vec![0; rules],
+                nodes: vec![(0, 0, 0); nodes],
+            });
+        }
+        assert!(seen.iter().all(|&count| count > 100), "{seen:?}");
     }
 }

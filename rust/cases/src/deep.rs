@@ -1,7 +1,8 @@
 //! Lines that open 511, 512 and 513 visits, and sheets of full size.
 
+use sheets::Sheet;
+
 use crate::maker::Maker;
-use crate::sheet::Sheet;
 use crate::soup;
 
 pub fn add(maker: &mut Maker) {
@@ -12,14 +13,14 @@ pub fn add(maker: &mut Maker) {
 }
 
 /// `child` under so many sequences with an empty first: each opens one visit.
-fn padded(sheet: &mut Sheet, child: u16, pads: usize) -> u16 {
+pub fn padded(sheet: &mut Sheet, child: u16, pads: usize) -> u16 {
     let nothing = sheet.empty();
     (0..pads).fold(child, |inner, _| sheet.sequence(nothing, inner))
 }
 
 /// S <- pads T; T <- 'a' T / empty. Three visits deeper with each byte, so
 /// three pads reach every depth.
-fn right_recursive(pads: usize, not_free: bool) -> Sheet {
+pub fn right_recursive(pads: usize, not_free: bool) -> Sheet {
     let mut sheet = Sheet::new();
     let t = sheet.rule(1);
     let root = padded(&mut sheet, t, pads);
@@ -38,7 +39,7 @@ fn right_recursive(pads: usize, not_free: bool) -> Sheet {
 
 fn right_recursion(maker: &mut Maker) {
     for pads in 0..7 {
-        maker.table(&right_recursive(pads, false).table());
+        maker.table(&right_recursive(pads, false).bytes());
         for length in 166..=171 {
             maker.line(&vec![b'a'; length]);
             let whole = maker.random.chance(50);
@@ -47,7 +48,7 @@ fn right_recursion(maker: &mut Maker) {
         }
     }
     for pads in 0..4 {
-        maker.table(&right_recursive(pads, true).table());
+        maker.table(&right_recursive(pads, true).bytes());
         for length in [165, 168, 169, 170, 171, 255] {
             maker.line(&vec![b'a'; length]);
             let allowance = maker.affordable(1_000);
@@ -77,7 +78,7 @@ fn chains_of_nodes(maker: &mut Maker) {
             top = sheet.not(top);
         }
         sheet.root(top);
-        maker.table(&sheet.table());
+        maker.table(&sheet.bytes());
         for line in [b"".as_slice(), b"a"] {
             maker.line(line);
             for allowance in [510, 511, 512, 513] {
@@ -95,7 +96,7 @@ fn chains_of_nodes(maker: &mut Maker) {
             let itself = sheet.rule(1);
             sheet.root(itself);
         }
-        maker.table(&sheet.table());
+        maker.table(&sheet.bytes());
         for length in 8..=14 {
             maker.line(&vec![b'a'; length]);
             maker.read_with_enough(true, 1_100, 40);
@@ -119,7 +120,7 @@ fn many_live_uses(maker: &mut Maker) {
         let on = sheet.sequence(a, uses[0]);
         let last = sheet.first_of(&[grown, on, a]);
         sheet.root(last);
-        maker.table(&sheet.table());
+        maker.table(&sheet.bytes());
         maker.report();
         for length in [0, 1, 2, 5, 8, 100] {
             maker.line(&vec![b'a'; length]);
@@ -133,7 +134,7 @@ fn many_live_uses(maker: &mut Maker) {
 fn full_size(maker: &mut Maker) {
     for _ in 0..24 {
         let sheet = soup::soup(maker, 512, 64);
-        maker.table(&sheet.table());
+        maker.table(&sheet.bytes());
         maker.check();
         maker.report();
         for _ in 0..4 {
@@ -159,7 +160,7 @@ mod tests {
         let mut work = vec![0; 20_000];
         let mut room = vec![0; 5_005];
         let line = vec![b'a'; length];
-        independent::read(&sheet.table(), &line, 1_500, &mut work, &mut room, true).code
+        independent::read(&sheet.bytes(), &line, 1_500, &mut work, &mut room, true).code
     }
 
     /// T at position p is open as number pads + 3p + 1, and under it come a

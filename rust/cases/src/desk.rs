@@ -23,26 +23,9 @@ impl Readers {
     pub fn independent() -> Readers {
         Readers {
             check: independent::check,
-            report: |table| {
-                let report = independent::report(table);
-                [
-                    report.code,
-                    report.place,
-                    report.may_be_empty,
-                    report.left_recursive,
-                    report.how_many,
-                    report.lowest,
-                ]
-            },
+            report: |table| independent::report(table).numbers(),
             read: |table, line, allowance, work, room, whole| {
-                let answer = independent::read(table, line, allowance, work, room, whole);
-                [
-                    answer.code,
-                    answer.place,
-                    answer.matched,
-                    answer.visits,
-                    answer.records,
-                ]
+                independent::read(table, line, allowance, work, room, whole).numbers()
             },
             well_formed: independent::well_formed,
         }

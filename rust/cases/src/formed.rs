@@ -31,7 +31,7 @@ fn stored(records: &[Record]) -> Vec<u8> {
 /// What the reader stores for the example lines, and each byte of it wrong.
 fn from_readings(maker: &mut Maker) {
     for (number, example) in examples().into_iter().enumerate() {
-        maker.table(&example.sheet.table());
+        maker.table(&example.sheet.bytes());
         let rules = example.sheet.roots.len() as u16;
         for line in example.lines {
             maker.line(line.as_bytes());
@@ -50,7 +50,7 @@ fn from_readings(maker: &mut Maker) {
             }
         }
     }
-    maker.table(&each_the_next_twice(9).table());
+    maker.table(&each_the_next_twice(9).bytes());
     maker.line(b"");
     let large = maker.trial(true, 100).stored;
     for _ in 0..12 {

@@ -10,19 +10,18 @@ mod deep;
 mod desk;
 mod formed;
 mod maker;
+pub mod program;
 mod random;
 mod records;
-mod sheet;
 mod soup;
 mod textbook;
 mod worked;
 
 pub use command::{decode, Command, Lending};
-pub use desk::{run, Desk, Readers};
+pub use desk::{run, Desk, Read, Readers};
 pub use maker::{Cases, Tally};
 pub use random::Random;
-pub use sheet::Sheet;
-pub use textbook::{sheet_a, sheet_b, sum_sheet};
+pub use textbook::dear_sums;
 pub use worked::text as worked_text;
 
 use maker::Maker;

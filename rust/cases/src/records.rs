@@ -1,12 +1,13 @@
 //! Trees that double: at the limit of a thousand records, over it, and past
 //! what 64 bits can count.
 
+use sheets::Sheet;
+
 use crate::maker::Maker;
-use crate::sheet::Sheet;
 
 pub fn add(maker: &mut Maker) {
     for rules in (1..=14).chain([31, 32, 33, 63, 64]) {
-        maker.table(&each_the_next_twice(rules).table());
+        maker.table(&each_the_next_twice(rules).bytes());
         ask(maker, &[b"", b"a"], 400);
     }
     let exact = [
@@ -17,19 +18,19 @@ pub fn add(maker: &mut Maker) {
         .into_iter()
         .flat_map(|power| [power - 1, power, power + 1, power + 7]);
     for records in exact.into_iter().chain(around) {
-        maker.table(&exactly(records, false).table());
+        maker.table(&exactly(records, false).bytes());
         ask(maker, &[b"", b"a"], 600);
     }
     for records in [10, 500, 999, 1_000, 1_001, 1_002] {
-        maker.table(&exactly(records, true).table());
+        maker.table(&exactly(records, true).bytes());
         ask(maker, &[b""], 14_000);
     }
     for steps in (1..=12).chain([30, 31, 32, 33, 40, 60]) {
-        maker.table(&held_four_times(steps).table());
+        maker.table(&held_four_times(steps).bytes());
         ask(maker, &[b"a", b"aa", b"b"], 4_000);
     }
     for steps in [1, 2, 3, 4, 10] {
-        maker.table(&nested_by_growth(steps).table());
+        maker.table(&nested_by_growth(steps).bytes());
         maker.report();
         for length in [1, 2, 9, 50] {
             maker.line(&vec![b'a'; length]);
@@ -75,7 +76,7 @@ pub fn each_the_next_twice(rules: u16) -> Sheet {
 
 /// A sheet whose reading has exactly so many records on every line: a root
 /// over empty trees. Not free on wish, by a rule that is never used.
-fn exactly(records: u128, not_free: bool) -> Sheet {
+pub fn exactly(records: u128, not_free: bool) -> Sheet {
     let mut sheet = Sheet::new();
     let nothing = sheet.empty();
     let one = sheet.rule(1);
@@ -156,19 +157,23 @@ fn nested_by_growth(steps: u16) -> Sheet {
     sheet
 }
 
+/// S <- C*; C <- D; D <- E; E <- F; F <- 'a': four records a byte.
+pub fn four_a_byte() -> Sheet {
+    let mut sheet = Sheet::new();
+    let uses: Vec<u16> = (1..=4).map(|rule| sheet.rule(rule)).collect();
+    let all = sheet.repetition(uses[0]);
+    let a = sheet.byte(b'a');
+    sheet.root(all);
+    sheet.root(uses[1]);
+    sheet.root(uses[2]);
+    sheet.root(uses[3]);
+    sheet.root(a);
+    sheet
+}
+
 /// Records made along a line rather than by doubling: with one rule more
 /// around each byte, four lengths around the limit.
 fn many_records_over_a_line(maker: &mut Maker) {
-    // S <- C*; C <- D; D <- E; E <- F; F <- 'a': four records a byte.
-    let mut repeated = Sheet::new();
-    let uses: Vec<u16> = (1..=4).map(|rule| repeated.rule(rule)).collect();
-    let all = repeated.repetition(uses[0]);
-    let a = repeated.byte(b'a');
-    repeated.root(all);
-    repeated.root(uses[1]);
-    repeated.root(uses[2]);
-    repeated.root(uses[3]);
-    repeated.root(a);
     // S <- S 'a' / 'a': one record a byte, nested as deep as the line.
     let mut grown = Sheet::new();
     let s = grown.rule(0);
@@ -176,8 +181,8 @@ fn many_records_over_a_line(maker: &mut Maker) {
     let longer = grown.sequence(s, a);
     let root = grown.choice(longer, a);
     grown.root(root);
-    for (sheet, allowance) in [(repeated, 3_000), (grown, 2_000)] {
-        maker.table(&sheet.table());
+    for (sheet, allowance) in [(four_a_byte(), 3_000), (grown, 2_000)] {
+        maker.table(&sheet.bytes());
         for length in [1, 100, 249, 250, 251, 254, 255, 256] {
             maker.line(&vec![b'a'; length]);
             maker.read_with_enough(false, allowance, 5_005);
@@ -185,7 +190,7 @@ fn many_records_over_a_line(maker: &mut Maker) {
         }
     }
     // S <- W 'a' / 'a'; W <- V; V <- U; U <- S: four records a byte by growth.
-    maker.table(&nested_by_growth(3).table());
+    maker.table(&nested_by_growth(3).bytes());
     for length in [200, 250, 251, 255] {
         maker.line(&vec![b'a'; length]);
         maker.read_with_enough(true, 10_000, 5_005);
@@ -199,7 +204,7 @@ mod tests {
     fn records_of(sheet: &Sheet, line: &[u8], allowance: u64) -> independent::Answer {
         let mut work = vec![0; 200_000];
         let mut room = vec![0; 5_005];
-        independent::read(&sheet.table(), line, allowance, &mut work, &mut room, true)
+        independent::read(&sheet.bytes(), line, allowance, &mut work, &mut room, true)
     }
 
     #[test]

@@ -1,14 +1,15 @@
 //! Random sheets and random lines for them.
 
+use sheets::{Node, Sheet};
+
 use crate::maker::{Maker, Trial};
-use crate::sheet::{Node, Sheet};
 
 /// Makes random sheets with readings until so many commands are made.
 pub fn add(maker: &mut Maker, commands: u64) {
     while maker.commands() < commands {
         let alphabet = maker.random.pick(&[b"ab".as_slice(), b"abc", b"0+,", b"a"]);
         let sheet = some_sheet(maker, alphabet);
-        maker.table(&sheet.table());
+        maker.table(&sheet.bytes());
         maker.report();
         if maker.random.chance(10) {
             maker.check();
@@ -41,7 +42,7 @@ fn some_sheet(maker: &mut Maker, alphabet: &[u8]) -> Sheet {
 
 /// Whether one of a few lines drawn from the sheet has several records.
 fn makes_trees(maker: &mut Maker, sheet: &Sheet) -> bool {
-    let table = sheet.table();
+    let table = sheet.bytes();
     let mut most = 0;
     for _ in 0..4 {
         let line = drawn_line(maker, sheet);

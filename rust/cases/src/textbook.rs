@@ -1,8 +1,9 @@
 //! Sheets from the rules, from the papers and from the corners between them,
 //! each with lines that mean something to it.
 
+use sheets::{sheet_a, sheet_b, sum, Sheet};
+
 use crate::maker::Maker;
-use crate::sheet::Sheet;
 use crate::soup::drawn_line;
 
 /// A sheet and its lines.
@@ -11,65 +12,10 @@ pub struct Example {
     pub lines: Vec<&'static str>,
 }
 
-/// S <- S '+' D / D; D <- [0-9]
-pub fn sheet_a() -> Sheet {
-    let mut sheet = Sheet::new();
-    let s = sheet.rule(0);
-    let plus = sheet.byte(b'+');
-    let d = sheet.rule(1);
-    let plus_d = sheet.sequence(plus, d);
-    let longer = sheet.sequence(s, plus_d);
-    let root = sheet.choice(longer, d);
-    let digit = sheet.range(b'0', b'9');
-    sheet.root(root);
-    sheet.root(digit);
-    sheet
-}
-
-/// N <- D ',' D / D; D <- [0-9]
-pub fn sheet_b() -> Sheet {
-    sheet_b_with(|sheet, d, pair| sheet.choice(pair, d))
-}
-
 /// Sheet B with its choice turned round.
 pub fn sheet_b_turned_round() -> Sheet {
-    sheet_b_with(|sheet, d, pair| sheet.choice(d, pair))
-}
-
-fn sheet_b_with(choice: fn(&mut Sheet, u16, u16) -> u16) -> Sheet {
-    let mut sheet = Sheet::new();
-    let d = sheet.rule(1);
-    let comma = sheet.byte(b',');
-    let comma_d = sheet.sequence(comma, d);
-    let pair = sheet.sequence(d, comma_d);
-    let root = choice(&mut sheet, d, pair);
-    let digit = sheet.range(b'0', b'9');
-    sheet.root(root);
-    sheet.root(digit);
-    sheet
-}
-
-/// Sum <- Sum '+' Term / Sum '-' Term / Term; Term <- Term '*' Fac / Fac;
-/// Fac <- '(' Sum ')' / [0-9]
-pub fn sum_sheet() -> Sheet {
-    let mut sheet = Sheet::new();
-    let (sum, term, fac) = (sheet.rule(0), sheet.rule(1), sheet.rule(2));
-    let plus = sheet.byte(b'+');
-    let minus = sheet.byte(b'-');
-    let times = sheet.byte(b'*');
-    let open = sheet.byte(b'(');
-    let close = sheet.byte(b')');
-    let digit = sheet.range(b'0', b'9');
-    let added = sheet.in_order(&[sum, plus, term]);
-    let taken = sheet.in_order(&[sum, minus, term]);
-    let sum_root = sheet.first_of(&[added, taken, term]);
-    let product = sheet.in_order(&[term, times, fac]);
-    let term_root = sheet.choice(product, fac);
-    let bracket = sheet.in_order(&[open, sum, close]);
-    let fac_root = sheet.choice(bracket, digit);
-    sheet.root(sum_root);
-    sheet.root(term_root);
-    sheet.root(fac_root);
+    let mut sheet = sheet_b();
+    sheet.nodes[4] = (4, 0, 3);
     sheet
 }
 
@@ -316,7 +262,7 @@ fn repetition_over_trees_not_free() -> Sheet {
     with_unused_left_recursion(repetition_over_trees())
 }
 
-fn with_unused_left_recursion(mut sheet: Sheet) -> Sheet {
+pub fn with_unused_left_recursion(mut sheet: Sheet) -> Sheet {
     let own = sheet.roots.len() as u16;
     let used = sheet.rule(own);
     sheet.root(used);
@@ -501,8 +447,10 @@ pub fn examples() -> Vec<Example> {
         example(sheet_b(), &["1,5", "1", "1.5", ",5", "", "1,", "1,55"]),
         example(sheet_b_turned_round(), &["1,5", "1", ""]),
         example(
-            sum_sheet(),
-            &["1", "1+2", "1-2*3", "(1)", "(1+2)*3", "2*(3", "", "1+"],
+            sum(),
+            &[
+                "1", "12", "1+2", "1-2*3", "(1)", "(1+2)*3", "2*(3", "", "1+",
+            ],
         ),
         example(both_sides(), &["1+2+3", "1", "1+", "1+2+3+4", ""]),
         example(all_operators(), &["1+2", "1*2-3", "(1+2)", "1+", "()"]),
@@ -571,9 +519,20 @@ pub fn examples() -> Vec<Example> {
     ]
 }
 
+/// Sums that take more visits than the commands of the stream can allow.
+pub fn dear_sums() -> Vec<String> {
+    vec![
+        "((1+2)*(3-4)+5)*6-(7)".to_string(),
+        "(((((1)))))".to_string(),
+        "1+2*3-4+".repeat(31),
+        "9".to_string() + &"+9".repeat(127),
+        "9".to_string() + &"+9".repeat(128),
+    ]
+}
+
 pub fn add(maker: &mut Maker) {
     for example in examples() {
-        maker.table(&example.sheet.table());
+        maker.table(&example.sheet.bytes());
         maker.check();
         maker.report();
         for line in &example.lines {
@@ -624,15 +583,15 @@ mod tests {
 
     #[test]
     fn the_worked_sheets_have_their_lengths() {
-        assert_eq!(sheet_a().table().len(), 46);
-        assert_eq!(sheet_b().table().len(), 41);
-        assert_eq!(not_itself().table().len(), 29);
+        assert_eq!(sheet_a().bytes().len(), 46);
+        assert_eq!(sheet_b().bytes().len(), 41);
+        assert_eq!(not_itself().bytes().len(), 29);
     }
 
     #[test]
     fn every_example_is_an_accepted_table() {
         for (number, example) in examples().iter().enumerate() {
-            let checked = independent::check(&example.sheet.table());
+            let checked = independent::check(&example.sheet.bytes());
             assert_eq!(checked, (0, 0), "example {number}");
         }
     }
@@ -647,7 +606,7 @@ mod tests {
             hidden_by_rule(),
         ];
         for sheet in all {
-            assert_eq!(independent::report(&sheet.table()).left_recursive, 1);
+            assert_eq!(independent::report(&sheet.bytes()).left_recursive, 1);
         }
     }
 }

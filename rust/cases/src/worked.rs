@@ -3,8 +3,9 @@
 
 use std::fmt::Write;
 
-use crate::sheet::Sheet;
-use crate::textbook::{both_sides, not_itself, sheet_a, sheet_b, sheet_b_turned_round};
+use sheets::{sheet_a, sheet_b, Sheet};
+
+use crate::textbook::{both_sides, not_itself, sheet_b_turned_round};
 
 /// What a reading is asked for, and lent.
 #[derive(Clone, Copy)]
@@ -58,16 +59,7 @@ impl Page {
     }
 
     fn report(&mut self, name: &str, table: &[u8]) {
-        let report = independent::report(table);
-        let numbers = [
-            report.code,
-            report.place,
-            report.may_be_empty,
-            report.left_recursive,
-            report.how_many,
-            report.lowest,
-        ];
-        self.say(name, &numbers, &[]);
+        self.say(name, &independent::report(table).numbers(), &[]);
     }
 
     fn reading(&mut self, name: &str, table: &[u8], line: &[u8], asked: Asked) {
@@ -85,14 +77,7 @@ impl Page {
             independent::READ => 5 + 5 * answer.records as usize,
             _ => 0,
         };
-        let numbers = [
-            answer.code,
-            answer.place,
-            answer.matched,
-            answer.visits,
-            answer.records,
-        ];
-        self.say(name, &numbers, &room[..stored]);
+        self.say(name, &answer.numbers(), &room[..stored]);
     }
 }
 
@@ -119,7 +104,7 @@ pub fn text() -> String {
 }
 
 fn lines_of_a(page: &mut Page) {
-    let a = sheet_a().table();
+    let a = sheet_a().bytes();
     page.check("A, check", &a);
     page.report("A, report", &a);
     page.reading("A on 7+2", &a, b"7+2", prefix(2_500));
@@ -134,7 +119,7 @@ fn lines_of_a(page: &mut Page) {
 }
 
 fn lines_of_b(page: &mut Page) {
-    let b = sheet_b().table();
+    let b = sheet_b().bytes();
     page.check("B, check", &b);
     page.report("B, report", &b);
     page.reading("B on 1,5", &b, b"1,5", prefix(2_500));
@@ -143,18 +128,18 @@ fn lines_of_b(page: &mut Page) {
     page.reading("B on 1,5, whole", &b, b"1,5", whole(2_500));
     page.reading("B on 1.5, whole", &b, b"1.5", whole(2_500));
     page.reading("B on ,5, whole", &b, b",5", whole(2_500));
-    let turned = sheet_b_turned_round().table();
+    let turned = sheet_b_turned_round().bytes();
     page.reading("B turned round on 1,5", &turned, b"1,5", whole(2_500));
 }
 
 fn other_sheets(page: &mut Page) {
-    let not_itself = not_itself().table();
+    let not_itself = not_itself().bytes();
     page.report("S <- !S 'a', report", &not_itself);
     page.reading("S <- !S 'a' on a", &not_itself, b"a", prefix(2_500));
-    let both_sides = both_sides().table();
+    let both_sides = both_sides().bytes();
     page.report("E, report", &both_sides);
     page.reading("E on 1+2+3", &both_sides, b"1+2+3", whole(2_500));
-    let sum = difference().table();
+    let sum = difference().bytes();
     page.report("Sum, report", &sum);
     page.reading("Sum on 9-3-2", &sum, b"9-3-2", whole(2_500));
 }
@@ -187,7 +172,7 @@ fn doubling(rules: u16) -> Sheet {
 fn doubling_rules(page: &mut Page) {
     for (name, rules) in [("Nine", 9), ("Ten", 10)] {
         let name = format!("{name} rules that double");
-        page.reading(&name, &doubling(rules).table(), b"", prefix(2_500));
+        page.reading(&name, &doubling(rules).bytes(), b"", prefix(2_500));
     }
 }
 
@@ -199,7 +184,7 @@ fn line_length(page: &mut Page) {
     for length in [255, 256] {
         let name = format!("S <- 'a'* on {length} bytes");
         let line = vec![b'a'; length];
-        page.reading(&name, &sheet.table(), &line, whole(2_500));
+        page.reading(&name, &sheet.bytes(), &line, whole(2_500));
     }
 }
 
@@ -214,7 +199,7 @@ fn exact() -> Asked {
 }
 
 fn room(page: &mut Page) {
-    let a = sheet_a().table();
+    let a = sheet_a().bytes();
     for (name, room) in [("room 25", 25), ("room 24", 24), ("no room", 0)] {
         let asked = Asked { room, ..exact() };
         page.reading(&format!("A on 7+2, {name}"), &a, b"7+2", asked);
@@ -222,7 +207,7 @@ fn room(page: &mut Page) {
 }
 
 fn working_numbers(page: &mut Page) {
-    let a = sheet_a().table();
+    let a = sheet_a().bytes();
     for (name, numbers) in [
         ("working numbers 2192", 2_192),
         ("working numbers 2191", 2_191),
@@ -234,7 +219,7 @@ fn working_numbers(page: &mut Page) {
 }
 
 fn allowance(page: &mut Page) {
-    let a = sheet_a().table();
+    let a = sheet_a().bytes();
     for allowance in [0, 1, 1_000_000, 1_000_001] {
         let name = format!("A on 7, allowance {allowance}");
         page.reading(&name, &a, b"7", prefix(allowance));
@@ -255,7 +240,7 @@ fn open_visits(page: &mut Page) {
     let all = sheet.repetition(a);
     let top = (0..500).fold(all, |child, _| sheet.not(child));
     sheet.root(top);
-    let table = sheet.table();
+    let table = sheet.bytes();
     for open in [511, 512, 513] {
         let name = format!("{open} open visits");
         page.reading(&name, &table, &vec![b'a'; open - 502], prefix(550));
@@ -269,7 +254,7 @@ fn open_visits(page: &mut Page) {
 }
 
 fn order_of_a_reading(page: &mut Page) {
-    let a = sheet_a().table();
+    let a = sheet_a().bytes();
     for (name, line, allowance) in [
         ("256 bytes, allowance 0", [b'7'; 256].as_slice(), 0),
         ("7, allowance 0", b"7", 0),
@@ -294,14 +279,14 @@ fn empties(n: usize, r: usize) -> Sheet {
 
 fn counts(page: &mut Page) {
     for (n, r) in [(1, 1), (512, 64), (513, 64), (512, 65), (0, 1), (1, 0)] {
-        let table = empties(n, r).table();
+        let table = empties(n, r).bytes();
         page.check(&format!("Check of nodes, rules {n} {r}"), &table);
         page.reading(&format!("Nodes, rules {n} {r}"), &table, b"", prefix(2_500));
     }
 }
 
 fn cuts(page: &mut Page) {
-    let mut a = sheet_a().table();
+    let mut a = sheet_a().bytes();
     a.push(0);
     for count in 0..=a.len() {
         page.check(&format!("A cut to bytes {count}"), &a[..count]);
@@ -312,7 +297,7 @@ fn roots(page: &mut Page) {
     for (rule, node) in [(0, 6), (0, 7), (0, 256), (1, 0), (1, 7), (1, 65_535)] {
         let mut a = sheet_a();
         a.roots[rule] = node;
-        page.check(&format!("A with rule, root {rule} {node}"), &a.table());
+        page.check(&format!("A with rule, root {rule} {node}"), &a.bytes());
     }
 }
 
@@ -324,7 +309,7 @@ fn kinds(page: &mut Page) {
         };
         page.reading(
             &format!("Node 1 of kind {kind}"),
-            &sheet.table(),
+            &sheet.bytes(),
             &[0],
             prefix(2_500),
         );
@@ -337,7 +322,7 @@ fn fields(page: &mut Page) {
         sheet.nodes[2] = (kind, a, b);
         page.check(
             &format!("Node 2 of kind, a, b {kind} {a} {b}"),
-            &sheet.table(),
+            &sheet.bytes(),
         );
     };
     for (a, b) in [(0, 0), (1, 0), (256, 0), (0, 1), (0, 256)] {
@@ -375,15 +360,15 @@ fn fields(page: &mut Page) {
 fn order_of_the_check(page: &mut Page) {
     let mut sheet = sheet_a();
     sheet.nodes[1] = (7, 0, 0);
-    page.check("A with kind 7 at node 1", &sheet.table());
+    page.check("A with kind 7 at node 1", &sheet.bytes());
     sheet.nodes[0] = (2, 2, 0);
     page.check(
         "A with kind 7 at node 1, a field wrong at node 0",
-        &sheet.table(),
+        &sheet.bytes(),
     );
     sheet.roots[1] = 7;
-    page.check("A with these and root 7 of rule 1", &sheet.table());
-    let mut table = sheet.table();
+    page.check("A with these and root 7 of rule 1", &sheet.bytes());
+    let mut table = sheet.bytes();
     table.pop();
     page.check("A with these and a byte too few", &table);
     table[4] = 0;

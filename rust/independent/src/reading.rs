@@ -1,12 +1,13 @@
 //! How a line is read.
 
 use std::collections::HashMap;
+use std::fmt;
 use std::rc::Rc;
 
 use crate::report::is_free;
 use crate::stored::{store, stored_length};
 use crate::table::{open, Node, Table};
-use crate::{Refusal, ALLOW, DEEP, EFFORT, FAIL, LINE, READ, RECORDS, REST, ROOM, WORK};
+use crate::{names, Refusal, ALLOW, DEEP, EFFORT, FAIL, LINE, READ, RECORDS, REST, ROOM, WORK};
 
 /// What a reading returns.
 #[derive(Clone, Copy, Debug, PartialEq, Eq)]
@@ -16,6 +17,32 @@ pub struct Answer {
     pub matched: u64,
     pub visits: u64,
     pub records: u64,
+}
+
+impl Answer {
+    /// In the order of the rules.
+    pub fn numbers(self) -> [u64; 5] {
+        [
+            self.code,
+            self.place,
+            self.matched,
+            self.visits,
+            self.records,
+        ]
+    }
+}
+
+/// As the classroom program prints it.
+impl fmt::Display for Answer {
+    fn fmt(&self, f: &mut fmt::Formatter) -> fmt::Result {
+        let name = names(self.code).expect("a code has a name");
+        if self.code == READ {
+            let (matched, visits, records) = (self.matched, self.visits, self.records);
+            write!(f, "{name} {matched} {visits} {records}")
+        } else {
+            write!(f, "{name} {} {}", self.place, self.visits)
+        }
+    }
 }
 
 /// A tree over this many records is not stored.

@@ -17,6 +17,20 @@ pub struct Report {
     pub lowest: u64,
 }
 
+impl Report {
+    /// In the order of the rules.
+    pub fn numbers(self) -> [u64; 6] {
+        [
+            self.code,
+            self.place,
+            self.may_be_empty,
+            self.left_recursive,
+            self.how_many,
+            self.lowest,
+        ]
+    }
+}
+
 pub fn report(table: &[u8]) -> Report {
     match open(table) {
         Err(refusal) => Report {

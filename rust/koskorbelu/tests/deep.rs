@@ -16,8 +16,9 @@ mod proved {
     use std::str::FromStr;
     use std::thread;
 
-    use cases::{decode, make, run, sheet_a, sheet_b, sum_sheet, Command, Lending, Readers};
+    use cases::{dear_sums, decode, make, run, Command, Lending, Read, Readers};
     use koskorbelu::{face, stored_length, Answer, Tree};
+    use sheets::{sheet_a, sheet_b, sum};
 
     const SEED: u64 = 1;
     const COMMANDS: usize = 24_000;
@@ -95,9 +96,6 @@ mod proved {
         }
     }
 
-    /// A reading: table, line, allowance, working numbers, room, whole.
-    type Read = fn(&[u8], &[u8], u64, &mut [u32], &mut [u8], bool) -> [u64; 5];
-
     /// The five numbers, and what is then in the working numbers and the room.
     type Left = ([u64; 5], Vec<u32>, Vec<u8>);
 
@@ -117,21 +115,14 @@ mod proved {
     /// Allowances whose working numbers the commands cannot lend.
     #[test]
     fn large_allowances() {
-        let lines = [
-            "((1+2)*(3-4)+5)*6-(7)".to_string(),
-            "(((((1)))))".to_string(),
-            "1+2*3-4+".repeat(31),
-            "9".to_string() + &"+9".repeat(127),
-            "9".to_string() + &"+9".repeat(128),
-        ];
         for (sheet, allowance) in [
-            (sum_sheet(), 1_000_000),
-            (sum_sheet(), 300_000),
+            (sum(), 1_000_000),
+            (sum(), 300_000),
             (sheet_a(), 1_000_000),
             (sheet_a(), 1_000_001),
         ] {
-            let table = sheet.table();
-            for line in &lines {
+            let table = sheet.bytes();
+            for line in &dear_sums() {
                 for whole in [false, true] {
                     let asked = Command::Read(Lending {
                         whole,
@@ -155,9 +146,9 @@ mod proved {
             (sheet_a(), "7+"),
             (sheet_b(), "1,5"),
             (sheet_b(), ",5"),
-            (sum_sheet(), "9-3-2*(4+1)"),
+            (sum(), "9-3-2*(4+1)"),
         ] {
-            let (table, line) = (sheet.table(), line.as_bytes());
+            let (table, line) = (sheet.bytes(), line.as_bytes());
             let (mut work, mut room) = (vec![7; 16_384], vec![7; 5_005]);
             let [code, place, matched, visits, records] =
                 face::read(&table, line, 2_500, &mut work, &mut room, true);
@@ -196,7 +187,7 @@ mod proved {
     fn empty_slices() {
         assert_eq!(face::check(&[]), [1, 0]);
         assert_eq!(face::report(&[]), [1, 0, 0, 0, 0, 64]);
-        let table = sheet_b().table();
+        let table = sheet_b().bytes();
         for whole in [false, true] {
             let numbers = face::read(&[], &[], 0, &mut [], &mut [], whole);
             assert_eq!(numbers, [1, 0, 0, 0, 0]);
@@ -205,7 +196,8 @@ mod proved {
         }
     }
 
-    /// The deepest readings too fit in half a megabyte.
+    /// The deepest readings too fit in KOS_STACK of the header, with what a thread
+    /// and the desk take beside it.
     #[test]
     fn a_small_stack_is_enough() {
         let stream = make(SEED).stdin;
@@ -215,7 +207,7 @@ mod proved {
             read: face::read,
             well_formed: Readers::independent().well_formed,
         };
-        let small = thread::Builder::new().stack_size(512 * 1024);
+        let small = thread::Builder::new().stack_size(98_304 + 32 * 1024);
         let answering = small.spawn(move || run(&stream, readers)).unwrap();
         assert!(!answering.join().unwrap().is_empty());
     }
@@ -223,7 +215,7 @@ mod proved {
     /// The wrapper lends enough for every line, the longest and deepest too.
     #[test]
     fn enough_is_lent() {
-        let table = sheet_a().table();
+        let table = sheet_a().bytes();
         for length in [1, 127, 255] {
             let line: Vec<u8> = b"7+".iter().copied().cycle().take(length).collect();
             for allowance in [1, 2_500, 1_000_000, u64::MAX] {
@@ -243,7 +235,7 @@ mod proved {
         let report = koskorbelu::report(&table).unwrap();
         assert_eq!((report.lowest, report.how_many), (Some(0), 1));
         assert!(!report.is_free());
-        let free = koskorbelu::report(&sheet_b().table()).unwrap();
+        let free = koskorbelu::report(&sheet_b().bytes()).unwrap();
         assert!(free.is_free() && free.lowest.is_none());
     }
 }

@@ -14,6 +14,19 @@ pub struct Answer {
     pub records: u64,
 }
 
+impl Answer {
+    /// In the order of the rules.
+    pub fn numbers(self) -> [u64; 5] {
+        [
+            self.code,
+            self.place,
+            self.matched,
+            self.visits,
+            self.records,
+        ]
+    }
+}
+
 const MOST_OPEN: u32 = 512;
 
 /// Records and trees are counted up to here, one over what is stored.

@@ -1,31 +1,15 @@
 //! The baseline answers every case as the independent reader does, buffers
 //! included.
 
-use cases::{make, run, sheet_a, sum_sheet, Readers, SEED};
+use cases::{dear_sums, make, run, Readers, SEED};
+use sheets::{sheet_a, sum};
 
 fn plain_readers() -> Readers {
     Readers {
         check: plain::check,
-        report: |table| {
-            let report = plain::report(table);
-            [
-                report.code,
-                report.place,
-                report.may_be_empty,
-                report.left_recursive,
-                report.how_many,
-                report.lowest,
-            ]
-        },
+        report: |table| plain::report(table).numbers(),
         read: |table, line, allowance, work, room, whole| {
-            let answer = plain::read(table, line, allowance, work, room, whole);
-            [
-                answer.code,
-                answer.place,
-                answer.matched,
-                answer.visits,
-                answer.records,
-            ]
+            plain::read(table, line, allowance, work, room, whole).numbers()
         },
         // The baseline has no such function of its own.
         well_formed: Readers::independent().well_formed,
@@ -58,19 +42,9 @@ fn other_seeds() {
 /// The largest allowances, whose working numbers the kept cases cannot lend.
 #[test]
 fn large_allowances() {
-    let sums = [
-        "((1+2)*(3-4)+5)*6-(7)".to_string(),
-        "(((((1)))))".to_string(),
-        "1+2*3-4+".repeat(31),
-        "9".to_string() + &"+9".repeat(127),
-    ];
-    for (sheet, allowance) in [
-        (sum_sheet(), 1_000_000),
-        (sum_sheet(), 300_000),
-        (sheet_a(), 1_000_000),
-    ] {
-        let table = sheet.table();
-        for line in &sums {
+    for (sheet, allowance) in [(sum(), 1_000_000), (sum(), 300_000), (sheet_a(), 1_000_000)] {
+        let table = sheet.bytes();
+        for line in &dear_sums() {
             for whole in [false, true] {
                 let given = answer(plain_readers(), &table, line.as_bytes(), allowance, whole);
                 let expected = answer(

@@ -12,8 +12,8 @@ fn main() -> ExitCode {
     };
     for (folder, sheet) in sheets::all() {
         let path = Path::new(examples).join(folder).join("class.gram");
-        if let Err(error) = std::fs::write(&path, sheet.table()) {
-            eprintln!("{}: {error}", path.display());
+        if let Err(error) = sheet.write(path) {
+            eprintln!("{error}");
             return ExitCode::FAILURE;
         }
     }

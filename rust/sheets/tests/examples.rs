@@ -4,7 +4,7 @@
 use std::fs;
 use std::path::{Path, PathBuf};
 
-use cases::Sheet;
+use sheets::Sheet;
 
 /// What the classroom program lends for each line.
 const ALLOWANCE: u64 = 2_500;
@@ -26,23 +26,14 @@ fn answer(table: &[u8], line: &str) -> (String, Vec<u8>) {
     let (mut work, mut room) = (vec![0; WORK], vec![0; ROOM]);
     let line = line.as_bytes();
     let answer = independent::read(table, line, ALLOWANCE, &mut work, &mut room, true);
-    let name = independent::names(answer.code).unwrap();
-    let printed = if answer.code == independent::READ {
-        format!(
-            "{name} {} {} {}",
-            answer.matched, answer.visits, answer.records
-        )
-    } else {
-        format!("{name} {} {}", answer.place, answer.visits)
-    };
-    (printed, room)
+    (answer.to_string(), room)
 }
 
 #[test]
 fn table_files_are_those_of_the_sheets() {
     for (folder, sheet) in sheets::all() {
         let table = fs::read(file(folder, "class.gram")).unwrap();
-        assert!(table == sheet.table(), "{folder}: run sheets");
+        assert!(table == sheet.bytes(), "{folder}: run sheets");
         assert_eq!(independent::check(&table), (0, 0), "{folder}");
     }
 }
@@ -50,7 +41,7 @@ fn table_files_are_those_of_the_sheets() {
 #[test]
 fn expected_answers() {
     for (folder, sheet) in sheets::all() {
-        let table = sheet.table();
+        let table = sheet.bytes();
         let answers: String = text(folder, "lines.txt")
             .lines()
             .map(|line| answer(&table, line).0 + "\n")
@@ -61,7 +52,7 @@ fn expected_answers() {
 
 /// Rule, start and end of each record, in stored order.
 fn records(sheet: Sheet, line: &str) -> Vec<(u8, u8, u8)> {
-    let (printed, room) = answer(&sheet.table(), line);
+    let (printed, room) = answer(&sheet.bytes(), line);
     assert!(printed.starts_with("READ "), "{line}: {printed}");
     let count = usize::from(room[3]) * 256 + usize::from(room[4]);
     let stored = room[5..].chunks(5).take(count);
@@ -78,6 +69,26 @@ fn a_comma_splits_or_groups() {
 }
 
 #[test]
+fn a_power_has_a_number_and_a_unit() {
+    let power = records(sheets::kilowatts(), "1,5 kW").into_iter();
+    let without_digits: Vec<_> = power.filter(|record| record.0 != 4).collect();
+    let number = [(2, 0, 1), (3, 2, 3), (1, 0, 3)];
+    assert_eq!(without_digits[..3], number);
+    assert_eq!(without_digits[3..], [(5, 4, 6), (0, 0, 6)]);
+}
+
+#[test]
+fn digits_of_a_power() {
+    let table = sheets::kilowatts().bytes();
+    for power in ["0 W", "123456 W", "123456,789 kW", "0,1 W"] {
+        assert!(answer(&table, power).0.starts_with("READ "), "{power}");
+    }
+    for other in ["1234567 W", "0,1250 kW", "1, kW", ",5 kW", "1  W", "kW", ""] {
+        assert!(answer(&table, other).0.starts_with("FAIL "), "{other}");
+    }
+}
+
+#[test]
 fn sums_group_from_the_left() {
     let sums = records(sheets::sum(), "9-3-2").into_iter();
     let sums: Vec<_> = sums.filter(|record| record.0 == 0).collect();
@@ -87,7 +98,7 @@ fn sums_group_from_the_left() {
 #[test]
 fn reports() {
     for (folder, sheet) in sheets::all() {
-        let report = independent::report(&sheet.table());
+        let report = independent::report(&sheet.bytes());
         let left_recursive = if folder == "sum" { 0b11 } else { 0 };
         assert_eq!(report.left_recursive, left_recursive, "{folder}");
         assert_eq!(report.may_be_empty, 0, "{folder}");

@@ -1,0 +1,410 @@
+/*
+ * exact.c: the four C functions on buffers of exactly the length that is needed. Each slice stands right before a page
+ * that can't be touched, then right behind one. All numbers, and everything left in every buffer, is compared with what
+ * document 01 says; sheets A and B and the lines marked P are 01's.
+ */
+#define _DEFAULT_SOURCE /* for MAP_ANONYMOUS */
+#include <inttypes.h>
+#include <signal.h>
+#include <stdio.h>
+#include <stdlib.h>
+#include <sys/mman.h>
+#include <unistd.h>
+
+#include "table.h"
+
+static const uint8_t SHEET_A[] = {
+    1, 0, 46, 0, 7, 0, 2, /* version, length, seven nodes, two rules */
+    0, 5, 0, 6,           /* their roots */
+    2, 0, 0, 0, 0,        /* 0 rule 0 */
+    1, 0, 43, 0, 43,      /* 1 '+' */
+    2, 0, 1, 0, 0,        /* 2 rule 1 */
+    3, 0, 1, 0, 2,        /* 3 sequence 1 2 */
+    3, 0, 0, 0, 3,        /* 4 sequence 0 3 */
+    4, 0, 4, 0, 2,        /* 5 choice 4 2 */
+    1, 0, 48, 0, 57,      /* 6 a digit */
+};
+static const uint8_t SHEET_B[] = {
+    1, 0, 41, 0, 6, 0, 2, /* version, length, six nodes, two rules */
+    0, 4, 0, 5,           /* their roots */
+    2, 0, 1, 0, 0,        /* 0 rule 1 */
+    1, 0, 44, 0, 44,      /* 1 ',' */
+    3, 0, 1, 0, 0,        /* 2 sequence 1 0 */
+    3, 0, 0, 0, 2,        /* 3 sequence 0 2 */
+    4, 0, 3, 0, 0,        /* 4 choice 3 0 */
+    1, 0, 48, 0, 57,      /* 5 a digit */
+};
+static const uint8_t NOT_ITSELF[] = {
+    1, 0, 29, 0, 4, 0, 1, /* S <- !S 'a': version, length, four nodes, one rule */
+    0, 3,                 /* its root */
+    2, 0, 0, 0, 0,        /* 0 rule 0 */
+    5, 0, 0, 0, 0,        /* 1 not 0 */
+    1, 0, 97, 0, 97,      /* 2 'a' */
+    3, 0, 1, 0, 2,        /* 3 sequence 1 2 */
+};
+
+/* Stored readings: A on 7+2, A on 7, B on 1,5, B on 1, S <- !S 'a' on a. */
+static const uint8_t A_TWO[] = {1, 0, 25, 0, 4, 1, 0, 1, 0, 0, 0, 0, 1, 0, 1, 1, 2, 3, 0, 0, 0, 0, 3, 0, 2};
+static const uint8_t A_ONE[] = {1, 0, 15, 0, 2, 1, 0, 1, 0, 0, 0, 0, 1, 0, 1};
+static const uint8_t B_PAIR[] = {1, 0, 20, 0, 3, 1, 0, 1, 0, 0, 1, 2, 3, 0, 0, 0, 0, 3, 0, 2};
+static const uint8_t B_ONE[] = {1, 0, 15, 0, 2, 1, 0, 1, 0, 0, 0, 0, 1, 0, 1};
+static const uint8_t NOT_ONE[] = {1, 0, 10, 0, 1, 0, 0, 1, 0, 0};
+
+/* Where the page that can't be touched stands. */
+enum side { BEHIND, IN_FRONT };
+static enum side side;
+
+/* What is checked now, for whoever reads that it failed. */
+static const char *now = "";
+static int failures;
+
+static void must(int holds, const char *what)
+{
+    if (holds) return;
+    failures++;
+    printf("%s, guard %s: %s\n", now, side == BEHIND ? "behind" : "in front", what);
+}
+
+static void touched(int signal_number)
+{
+    (void)signal_number;
+    must(0, "touched what was not lent");
+    fflush(stdout);
+    _exit(1);
+}
+
+/* A slice beside a page that can't be touched. The rest of its own pages keeps a fill. */
+struct slice {
+    uint8_t *map, *own, *at;
+    size_t map_length, own_length, length;
+};
+
+static uint8_t fill(size_t i)
+{
+    return (uint8_t)(i * 7 + 3);
+}
+
+static struct slice lend(size_t length)
+{
+    size_t page = (size_t)sysconf(_SC_PAGESIZE);
+    struct slice slice;
+    slice.length = length;
+    slice.own_length = (length / page + 1) * page;
+    slice.map_length = slice.own_length + page;
+    slice.map = mmap(NULL, slice.map_length, PROT_READ | PROT_WRITE, MAP_PRIVATE | MAP_ANONYMOUS, -1, 0);
+    if (slice.map == MAP_FAILED) {
+        perror("mmap");
+        exit(2);
+    }
+    slice.own = side == BEHIND ? slice.map : slice.map + page;
+    slice.at = side == BEHIND ? slice.own + slice.own_length - length : slice.own;
+    mprotect(side == BEHIND ? slice.map + slice.own_length : slice.map, page, PROT_NONE);
+    for (size_t i = 0; i < slice.own_length; i++) slice.own[i] = fill(i);
+    return slice;
+}
+
+/* A slice that is only read: to write it is to touch what was not lent. */
+static struct slice lend_bytes(const uint8_t *bytes, size_t length)
+{
+    struct slice slice = lend(length);
+    if (length > 0) memcpy(slice.at, bytes, length);
+    mprotect(slice.own, slice.own_length, PROT_READ);
+    return slice;
+}
+
+/* Whether all is as found, but for so many bytes at the slice's beginning. */
+static int is_as_found(struct slice slice, size_t but)
+{
+    size_t start = (size_t)(slice.at - slice.own);
+    for (size_t i = 0; i < slice.own_length; i++)
+        if ((i < start || i >= start + but) && slice.own[i] != fill(i)) return 0;
+    return 1;
+}
+
+static int is_zero(struct slice slice, size_t length)
+{
+    for (size_t i = 0; i < length; i++)
+        if (slice.at[i] != 0) return 0;
+    return 1;
+}
+
+static void give_back(struct slice slice)
+{
+    munmap(slice.map, slice.map_length);
+}
+
+static void show(const char *word, const uint8_t *numbers, size_t count)
+{
+    printf("  %s:", word);
+    for (size_t i = 0; i < count; i++) {
+        uint64_t number;
+        memcpy(&number, numbers + 8 * i, 8);
+        printf(" %" PRIu64, number);
+    }
+    printf("\n");
+}
+
+/* An answer of so many numbers: they are as due, and nothing else is written. */
+static void must_answer(struct slice answer, const uint64_t *due)
+{
+    if (memcmp(answer.at, due, answer.length) != 0) {
+        must(0, "numbers");
+        show("given", answer.at, answer.length / 8);
+        show("due", (const uint8_t *)due, answer.length / 8);
+    }
+    must(is_as_found(answer, answer.length), "written beside the answer");
+    give_back(answer);
+}
+
+typedef void question(const uint8_t *table, size_t table_length, uint64_t *answer);
+
+static void ask(question *function, const uint8_t *bytes, size_t length, const uint64_t *due, size_t numbers)
+{
+    struct slice table = lend_bytes(bytes, length), answer = lend(8 * numbers);
+    function(table.at, length, (uint64_t *)(void *)answer.at);
+    must_answer(answer, due);
+    give_back(table);
+}
+
+static void check(const uint8_t *table, size_t length, uint64_t code, uint64_t place)
+{
+    uint64_t due[] = {code, place};
+    ask(kos_check, table, length, due, KOS_CHECK_NUMBERS);
+}
+
+static void report(const uint8_t *table, size_t length, uint64_t code, uint64_t place, uint64_t may_be_empty,
+                   uint64_t left_recursive, uint64_t how_many, uint64_t lowest)
+{
+    uint64_t due[] = {code, place, may_be_empty, left_recursive, how_many, lowest};
+    ask(kos_report, table, length, due, KOS_REPORT_NUMBERS);
+}
+
+/* A reading: what is asked, and what is due. */
+struct reading {
+    const uint8_t *table;
+    size_t table_length;
+    const char *line;
+    int whole;
+    uint64_t allowance;
+    const uint64_t *due;
+    const uint8_t *stored; /* with READ */
+};
+#define DUE(...) ((const uint64_t[]){__VA_ARGS__})
+
+static size_t work_needed(const struct reading *asked)
+{
+    size_t nodes = asked->table_length < 5 ? 0 : (size_t)asked->table[3] << 8 | asked->table[4];
+    return KOS_WORK_NEEDED(asked->allowance, nodes, strlen(asked->line));
+}
+
+static void must_leave(const struct reading *asked, struct slice work, struct slice room)
+{
+    uint64_t code = asked->due[KOS_AT_CODE];
+    size_t cleared = code >= KOS_SHORT && code <= KOS_WORK ? 0 : 4 * work_needed(asked);
+    size_t stored = code == KOS_READ ? KOS_STORED_LENGTH(asked->due[KOS_AT_RECORDS]) : 0;
+    must(is_zero(work, cleared), "working numbers not cleared");
+    must(is_as_found(work, cleared), "working numbers changed");
+    must(stored == 0 || memcmp(room.at, asked->stored, stored) == 0, "stored reading");
+    must(is_as_found(room, stored), "room changed");
+}
+
+/* The reading with so many working numbers and so much room. */
+static void read_lent(struct reading asked, size_t work_length, size_t room_length)
+{
+    struct slice table = lend_bytes(asked.table, asked.table_length);
+    struct slice line = lend_bytes((const uint8_t *)asked.line, strlen(asked.line));
+    struct slice work = lend(4 * work_length), room = lend(room_length), answer = lend(8 * KOS_READ_NUMBERS);
+    (asked.whole ? kos_read_whole : kos_read_prefix)(
+        table.at, table.length, line.at, line.length, asked.allowance,
+        (uint32_t *)(void *)work.at, work_length, room.at, room_length, (uint64_t *)(void *)answer.at);
+    must_answer(answer, asked.due);
+    must_leave(&asked, work, room);
+    give_back(table);
+    give_back(line);
+    give_back(work);
+    give_back(room);
+}
+
+/* The sheet at hand. */
+static const uint8_t *sheet;
+static size_t sheet_length;
+
+static void take(const uint8_t *table, size_t length)
+{
+    sheet = table;
+    sheet_length = length;
+}
+#define TAKE(table) take(table, sizeof(table))
+
+static struct reading asked(const char *name, const char *line, int whole, uint64_t allowance, const uint64_t *due,
+                            const uint8_t *stored)
+{
+    struct reading reading = {sheet, sheet_length, line, whole, allowance, due, stored};
+    now = name;
+    return reading;
+}
+
+/* With exactly the working numbers and the room that are needed, then with some more of either. */
+static void reads(const char *name, const char *line, int whole, uint64_t allowance, const uint64_t *due,
+                  const uint8_t *stored)
+{
+    struct reading reading = asked(name, line, whole, allowance, due, stored);
+    size_t work = work_needed(&reading), room = KOS_STORED_LENGTH(due[KOS_AT_RECORDS]);
+    read_lent(reading, work, room);
+    read_lent(reading, work + 3, room + 3);
+}
+
+static void worked_lines(void)
+{
+    TAKE(SHEET_A);
+    check(sheet, sheet_length, KOS_READ, 0);
+    report(sheet, sheet_length, KOS_READ, 0, 0, 1, 1, 0);
+    for (int whole = 0; whole <= 1; whole++) {
+        reads("A on 7+2", "7+2", whole, 2500, DUE(KOS_READ, 0, 3, 22, 4), A_TWO);
+        reads("A on 7+2, allowance 22", "7+2", whole, 22, DUE(KOS_READ, 0, 3, 22, 4), A_TWO);
+        reads("A on 7+2, allowance 21", "7+2", whole, 21, DUE(KOS_EFFORT, 0, 0, 21, 0), NULL);
+        reads("A on 7", "7", whole, 2500, DUE(KOS_READ, 0, 1, 14, 2), A_ONE);
+        reads("A on an empty line", "", whole, 2500, DUE(KOS_FAIL, 0, 0, 5, 0), NULL);
+        reads("A on +", "+", whole, 2500, DUE(KOS_FAIL, 0, 0, 5, 0), NULL);
+    }
+    reads("A on 7+, prefix", "7+", 0, 2500, DUE(KOS_READ, 0, 1, 16, 2), A_ONE);
+    reads("A on 7+, whole", "7+", 1, 2500, DUE(KOS_REST, 1, 1, 16, 0), NULL);
+
+    TAKE(SHEET_B);
+    check(sheet, sheet_length, KOS_READ, 0);
+    report(sheet, sheet_length, KOS_READ, 0, 0, 0, 0, 64);
+    for (int whole = 0; whole <= 1; whole++) {
+        reads("B on 1,5", "1,5", whole, 49, DUE(KOS_READ, 0, 3, 8, 3), B_PAIR);
+        reads("B on 1", "1", whole, 2500, DUE(KOS_READ, 0, 1, 7, 2), B_ONE);
+    }
+    uint8_t turned[sizeof SHEET_B];
+    memcpy(turned, SHEET_B, sizeof turned);
+    turned[33] = 0, turned[35] = 3; /* node 4: choice 0 3 */
+    TAKE(turned);
+    reads("B turned round on 1,5", "1,5", 1, 2500, DUE(KOS_REST, 1, 1, 3, 0), NULL);
+
+    TAKE(NOT_ITSELF);
+    report(sheet, sheet_length, KOS_READ, 0, 0, 1, 1, 0);
+    reads("S <- !S 'a' on a", "a", 1, 2500, DUE(KOS_READ, 0, 1, 7, 1), NOT_ONE);
+}
+
+/* The records of rules that double: the tree of a rule, at 0 to 0. Gives where the next record goes. */
+static uint8_t *put_doubled(uint8_t *at, size_t rule, size_t last)
+{
+    for (int twice = 0; rule < last && twice < 2; twice++) at = put_doubled(at, rule + 1, last);
+    uint8_t record[] = {(uint8_t)rule, 0, 0, 0, rule < last ? 2 : 0};
+    memcpy(at, record, sizeof record);
+    return at + sizeof record;
+}
+
+/* So many rules, each the next one twice, the last empty. */
+static void take_doubling(size_t rules)
+{
+    static struct table table;
+    memset(&table, 0, sizeof table);
+    for (size_t rule = 1; rule < rules; rule++) {
+        size_t next = add_node(&table, RULE, rule, 0);
+        add_root(&table, add_node(&table, SEQUENCE, next, next));
+    }
+    add_root(&table, add_node(&table, EMPTY, 0, 0));
+    finish(&table);
+    take(table.bytes, table.length);
+}
+
+static void doubling_rules(void)
+{
+    static uint8_t stored[2560] = {1, 10, 0, 1, 255};
+    put_doubled(stored + 5, 0, 8);
+    take_doubling(9);
+    report(sheet, sheet_length, KOS_READ, 0, 511, 0, 0, 64);
+    reads("nine rules that double", "", 1, 2500, DUE(KOS_READ, 0, 0, 25, 511), stored);
+    take_doubling(10);
+    reads("ten rules that double", "", 1, 2500, DUE(KOS_RECORDS, 0, 0, 28, 1001), NULL);
+}
+
+/* A on 7+7+..7, 255 bytes: each digit is a D, and an S around it and the S before it. */
+static void long_lines(void)
+{
+    static char line[257];
+    static uint8_t stored[5 + 10 * 128] = {1, 5, 5, 1, 0};
+    for (size_t i = 0; i < 256; i++) line[i] = i % 2 ? '+' : '7';
+    for (size_t digit = 0; digit < 128; digit++) {
+        uint8_t start = (uint8_t)(2 * digit), end = (uint8_t)(start + 1);
+        uint8_t records[] = {1, start, end, 0, 0, 0, 0, end, 0, digit ? 2 : 1};
+        memcpy(stored + 5 + 10 * digit, records, sizeof records);
+    }
+    TAKE(SHEET_A);
+    reads("A on 256 bytes", line, 1, 2500, DUE(KOS_LINE, 0, 0, 0, 0), NULL);
+    line[255] = 0;
+    reads("A on 255 bytes", line, 1, 1030, DUE(KOS_READ, 0, 255, 1030, 256), stored);
+}
+
+/* A on 7+2 with an allowance of 22 needs 2,192 working numbers and 25 bytes of room. */
+static void limits_of_what_is_lent(void)
+{
+    const uint64_t *work = DUE(KOS_WORK, 0, 0, 0, 0), *room = DUE(KOS_ROOM, 3, 3, 22, 4);
+    const uint64_t *allow = DUE(KOS_ALLOW, 0, 0, 0, 0);
+    TAKE(SHEET_A);
+    read_lent(asked("a working number short", "7+2", 1, 22, work, NULL), 2191, 25);
+    read_lent(asked("no working numbers", "7+2", 1, 22, work, NULL), 0, 25);
+    read_lent(asked("a byte of room short", "7+2", 1, 22, room, NULL), 2192, 24);
+    read_lent(asked("no room", "7+2", 1, 22, room, NULL), 2192, 0);
+    read_lent(asked("allowance 0", "7", 1, 0, allow, NULL), 3000, 30);
+    read_lent(asked("allowance 1,000,001", "7", 1, 1000001, allow, NULL), 3000, 30);
+    read_lent(asked("allowance 2^64 - 1", "7", 1, UINT64_MAX, allow, NULL), 3000, 30);
+}
+
+/* A table that is refused is refused by all four, and nothing is changed. */
+static void refused(const char *name, const uint8_t *table, size_t length, uint64_t code, uint64_t place)
+{
+    const uint64_t *due = DUE(code, place, 0, 0, 0);
+    now = name;
+    check(table, length, code, place);
+    report(table, length, code, place, 0, 0, 0, 64);
+    take(table, length);
+    reads(name, "7+2", 0, 22, due, NULL);
+    reads(name, "7+2", 1, 22, due, NULL);
+    read_lent(asked(name, "", 1, 0, due, NULL), 0, 0);
+}
+
+/* Sheet A with two bytes at a place changed. */
+static const uint8_t *changed(size_t at, uint8_t high, uint8_t low)
+{
+    static uint8_t table[sizeof SHEET_A + 1];
+    memcpy(table, SHEET_A, sizeof SHEET_A);
+    table[at] = high, table[at + 1] = low;
+    return table;
+}
+
+static void refused_tables(void)
+{
+    size_t length = sizeof SHEET_A;
+    refused("no table", SHEET_A, 0, KOS_SHORT, 0);
+    refused("six bytes", SHEET_A, 6, KOS_SHORT, 0);
+    refused("version 2", changed(0, 2, 0), length, KOS_VERSION, 0);
+    refused("no nodes", changed(3, 0, 0), length, KOS_COUNT, 0);
+    refused("513 nodes", changed(3, 2, 1), length, KOS_COUNT, 0);
+    refused("no rules", changed(5, 0, 0), length, KOS_COUNT, 0);
+    refused("65 rules", changed(5, 0, 65), length, KOS_COUNT, 0);
+    refused("seven bytes", SHEET_A, 7, KOS_LENGTH, 0);
+    refused("a byte short", SHEET_A, length - 1, KOS_LENGTH, 0);
+    refused("a byte more", changed(0, 1, 0), length + 1, KOS_LENGTH, 0);
+    refused("root 7 of rule 1", changed(9, 0, 7), length, KOS_ROOT, 1);
+    refused("kind 7 of node 3", changed(26, 7, 0), length, KOS_KIND, 3);
+    refused("a child of node 4 not below it", changed(34, 0, 4), length, KOS_FIELD, 4);
+    refused("a range that ends before it begins", changed(44, 0, 47), length, KOS_FIELD, 6);
+}
+
+int main(void)
+{
+    signal(SIGSEGV, touched);
+    signal(SIGBUS, touched);
+    for (side = BEHIND; side <= IN_FRONT; side++) {
+        worked_lines();
+        doubling_rules();
+        long_lines();
+        limits_of_what_is_lent();
+        refused_tables();
+    }
+    return failures != 0;
+}

@@ -1,0 +1,219 @@
+/*
+ * stack.c: how many bytes of stack a call takes. Each call is made on a stack of its own that was painted before; the
+ * lowest byte that lost its paint tells how deep the call went. Fails if one goes deeper than koskorbelu.h says.
+ */
+#define _DEFAULT_SOURCE /* for MAP_ANONYMOUS */
+#include <pthread.h>
+#include <stdio.h>
+#include <stdlib.h>
+#include <sys/mman.h>
+
+#include "table.h"
+
+#define STACK (1024 * 1024)
+#define PAINT 0xA5
+
+/* What the calls are lent. */
+static struct table table;
+static uint8_t line[KOS_MOST_LINE];
+static size_t line_length;
+static uint32_t work[KOS_WORK_NEEDED(KOS_MOST_ALLOWANCE, KOS_MOST_NODES, KOS_MOST_LINE)];
+static uint8_t room[KOS_MOST_STORED];
+static uint64_t answer[KOS_REPORT_NUMBERS];
+
+static void call_report(void)
+{
+    kos_report(table.bytes, table.length, answer);
+}
+
+static void call_read(void)
+{
+    kos_read_whole(table.bytes, table.length, line, line_length, KOS_MOST_ALLOWANCE, work, sizeof work / sizeof work[0],
+                   room, sizeof room, answer);
+}
+
+typedef void call(void);
+static uint8_t *top;
+
+static void *start(void *given)
+{
+    uint8_t here = 0;
+    top = &here;
+    (*(call **)given)();
+    return NULL;
+}
+
+static void must(int holds, const char *what)
+{
+    if (holds) return;
+    printf("%s\n", what);
+    exit(1);
+}
+
+/* The bytes that a call takes, the frame that makes it included. */
+static size_t depth_of(call *function)
+{
+    uint8_t *stack = mmap(NULL, STACK, PROT_READ | PROT_WRITE, MAP_PRIVATE | MAP_ANONYMOUS, -1, 0);
+    pthread_attr_t own;
+    pthread_t thread;
+    must(stack != MAP_FAILED, "no stack");
+    memset(stack, PAINT, STACK);
+    must(pthread_attr_init(&own) == 0 && pthread_attr_setstack(&own, stack, STACK) == 0, "no stack of its own");
+    must(pthread_create(&thread, &own, start, &function) == 0, "no thread");
+    pthread_join(thread, NULL);
+    pthread_attr_destroy(&own);
+    uint8_t *lowest = stack;
+    while (*lowest == PAINT) lowest++;
+    size_t depth = (size_t)(top - lowest);
+    munmap(stack, STACK);
+    return depth;
+}
+
+static size_t deepest;
+
+/* The code tells that the call was the one meant. */
+static void measure(const char *what, call *function, uint64_t code)
+{
+    function(); /* what the system does at a first call is then done */
+    size_t depth = depth_of(function);
+    if (depth > deepest) deepest = depth;
+    printf("%8zu  %s\n", depth, what);
+    must(answer[KOS_AT_CODE] == code, "not the code that is due");
+}
+
+static void begin(size_t length)
+{
+    memset(&table, 0, sizeof table);
+    memset(line, 'a', sizeof line);
+    line_length = length;
+}
+
+/* Nodes of one kind, each over the one before and, where it has two children, beside node 0: 512 visits are open. */
+static const struct chain {
+    const char *name;
+    uint8_t kind, bottom;
+    int is_second;
+    uint64_t code;
+} chains[] = {
+    {"512 nots, free", NOT, EMPTY, 0, KOS_FAIL},
+    {"512 repetitions, free", REPETITION, EMPTY, 0, KOS_READ},
+    {"512 sequences by the first child, free", SEQUENCE, EMPTY, 0, KOS_READ},
+    {"512 sequences by the second child, free", SEQUENCE, EMPTY, 1, KOS_READ},
+    {"512 choices by the first child, free", CHOICE, RANGE, 0, KOS_FAIL},
+    {"512 choices by the second child, free", CHOICE, RANGE, 1, KOS_FAIL},
+    {"512 nots over the live use", NOT, RULE, 0, KOS_READ},
+    {"512 repetitions over the live use", REPETITION, RULE, 0, KOS_READ},
+    {"512 sequences over the live use", SEQUENCE, RULE, 0, KOS_FAIL},
+    {"512 choices by the first child, over the live use", CHOICE, RULE, 0, KOS_FAIL},
+    {"512 choices by the second child, over the live use", CHOICE, RULE, 1, KOS_FAIL},
+};
+
+static void measure_chain(const struct chain *chain)
+{
+    begin(0);
+    size_t top_node = add_node(&table, chain->bottom, 0, 0);
+    while (table.node_count < KOS_MOST_NODES)
+        top_node = add_node(&table, chain->kind, chain->is_second ? 0 : top_node, chain->is_second ? top_node : 0);
+    add_root(&table, top_node);
+    finish(&table);
+    measure(chain->name, call_read, chain->code);
+}
+
+/* With a rule that is never used and begins with itself, nothing is kept. */
+static void end(int is_free)
+{
+    if (!is_free) add_root(&table, add_node(&table, RULE, table.rule_count, 0));
+    finish(&table);
+}
+
+/* T <- 'a' T / empty, three visits deeper with each byte. */
+static void right_recursion(int is_free)
+{
+    begin(KOS_MOST_LINE);
+    size_t byte = add_node(&table, RANGE, 'a', 'a'), use = add_node(&table, RULE, 0, 0);
+    size_t longer = add_node(&table, SEQUENCE, byte, use);
+    add_root(&table, add_node(&table, CHOICE, longer, add_node(&table, EMPTY, 0, 0)));
+    end(is_free);
+    measure(is_free ? "right recursion to 512, free" : "right recursion to 512, live uses", call_read, KOS_DEEP);
+}
+
+/* A ring of 62 rules, each the next one; the last goes one byte on. Nearly every open visit is a use. */
+static void ring(int is_free)
+{
+    begin(KOS_MOST_LINE);
+    for (size_t rule = 1; rule < 62; rule++) add_root(&table, add_node(&table, RULE, rule, 0));
+    size_t byte = add_node(&table, RANGE, 'a', 'a'), first = add_node(&table, RULE, 0, 0);
+    add_root(&table, add_node(&table, SEQUENCE, byte, first));
+    end(is_free);
+    measure(is_free ? "uses to 512, free" : "uses to 512, all live", call_read, KOS_DEEP);
+}
+
+/* S <- W 'a' / 'a'; W <- V; and so on back to S: nine records a byte, each inside the next. */
+static void nested_records(void)
+{
+    begin(112);
+    size_t byte = add_node(&table, RANGE, 'a', 'a'), use = add_node(&table, RULE, 1, 0);
+    size_t longer = add_node(&table, SEQUENCE, use, byte);
+    add_root(&table, add_node(&table, CHOICE, longer, byte));
+    for (size_t rule = 2; rule <= 9; rule++) add_root(&table, add_node(&table, RULE, rule % 9, 0));
+    finish(&table);
+    measure("1,000 records, each inside the next", call_read, KOS_READ);
+    must(answer[KOS_AT_RECORDS] == KOS_MOST_RECORDS, "not 1,000 records");
+}
+
+/*
+ * S <- !!('a' T) R T; T <- R R .. R ('a' T / empty), 498 R; R <- empty. On `a` the T at 1 is kept before the T at 0 is
+ * visited, so that 1,000 records stand one behind the other with few visits open. The writer calls itself for each.
+ */
+static void records_in_a_row(void)
+{
+    begin(1);
+    size_t byte = add_node(&table, RANGE, 'a', 'a'), nothing = add_node(&table, EMPTY, 0, 0);
+    size_t t = add_node(&table, RULE, 1, 0), r = add_node(&table, RULE, 2, 0);
+    size_t on = add_node(&table, SEQUENCE, byte, t);
+    size_t row = add_node(&table, CHOICE, on, nothing);
+    for (size_t i = 0; i < 498; i++) row = add_node(&table, SEQUENCE, r, row);
+    size_t ahead = add_node(&table, NOT, add_node(&table, NOT, on, 0), 0);
+    add_root(&table, add_node(&table, SEQUENCE, ahead, add_node(&table, SEQUENCE, r, t)));
+    add_root(&table, row);
+    add_root(&table, nothing);
+    finish(&table);
+    measure("1,000 records, each behind the next", call_read, KOS_READ);
+    must(answer[KOS_AT_RECORDS] == KOS_MOST_RECORDS, "not 1,000 records");
+}
+
+/* 64 rules of 8 nodes, each with the next one at its left end; all may be empty, which is learnt one rule at a time. */
+static void full_report(void)
+{
+    begin(0);
+    for (size_t rule = 0; rule < KOS_MOST_RULES; rule++) {
+        size_t next = (rule + 1) % KOS_MOST_RULES;
+        size_t use = add_node(&table, RULE, next, 0), again = add_node(&table, RULE, next, 0);
+        size_t twice = add_node(&table, SEQUENCE, use, again);
+        size_t byte = add_node(&table, RANGE, 'a', 'a');
+        size_t some = next == 0 ? add_node(&table, REPETITION, byte, 0) : add_node(&table, RANGE, 'b', 'b');
+        size_t either = add_node(&table, CHOICE, twice, byte);
+        add_root(&table, add_node(&table, CHOICE, add_node(&table, CHOICE, some, either), use));
+    }
+    finish(&table);
+    measure("the report on a full table", call_report, KOS_READ);
+    must(answer[KOS_AT_HOW_MANY] == KOS_MOST_RULES, "not all rules left-recursive");
+}
+
+int main(void)
+{
+    printf("   bytes  of stack\n");
+    for (size_t i = 0; i < sizeof chains / sizeof chains[0]; i++) measure_chain(&chains[i]);
+    for (int is_free = 0; is_free <= 1; is_free++) {
+        right_recursion(is_free);
+        ring(is_free);
+    }
+    nested_records();
+    records_in_a_row();
+    full_report();
+    printf("%8zu  at most\n", deepest);
+#ifdef __x86_64__
+    must(deepest <= KOS_STACK, "more than KOS_STACK of koskorbelu.h");
+#endif
+    return 0;
+}
