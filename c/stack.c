@@ -163,7 +163,7 @@ static void nested_records(void)
 
 /*
  * S <- !!('a' T) R T; T <- R R .. R ('a' T / empty), 498 R; R <- empty. On `a` the T at 1 is kept before the T at 0 is
- * visited, so that 1,000 records stand one behind the other with few visits open. The writer calls itself for each.
+ * visited, so that 1,000 records stand one behind the other. A writer that called itself for each would go that deep.
  */
 static void records_in_a_row(void)
 {

@@ -207,7 +207,7 @@ mod proved {
             read: face::read,
             well_formed: Readers::independent().well_formed,
         };
-        let small = thread::Builder::new().stack_size(98_304 + 32 * 1024);
+        let small = thread::Builder::new().stack_size(86_016 + 32 * 1024);
         let answering = small.spawn(move || run(&stream, readers)).unwrap();
         assert!(!answering.join().unwrap().is_empty());
     }
