@@ -66,7 +66,6 @@ fn saturate(n: u32) -> u32
     MOST_COUNTED
 }
 
-// Writes a cell.
 fn put_cell(work: &mut [u32], top: u32, first: u32, second: u32, records: u32, trees: u32)
     requires { ⌜ 2048 + 4 * top + 3 < length (now work) ⌝ }
     ensures { λ _. ⌜ now (work .exit) ≡ withCell (now (work .entry)) top first second records trees ⌝ }
