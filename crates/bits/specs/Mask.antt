@@ -37,7 +37,6 @@ unfoldable pub least : (ℕ → Bool) → ℕ → ℕ
 least p zero = 0
 least p (suc k) = next (p 0) (least (λ (i : ℕ). p (suc i)) k)
 
--- The mask of a list of marks.
 unfoldable pub maskOf : List Bool → ℕ
 maskOf [] = 0
 maskOf (b ∷ bs) = maskOf bs * 2 + one b

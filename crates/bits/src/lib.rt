@@ -13,7 +13,6 @@ ghost use mathlib.Core.Path.{_≡_};
 ghost use Prim.Native.Nat.{ℕ, _+_, _*_, _/_, _%_, _^_, _<_};
 ghost use Rattle.bits.specs.Mask.{has, Added, howMany, least};
 
-// Whether the set has the rule.
 pub fn has_rule(mask: u64, rule: usize) -> bool
     requires { ⌜ rule < 64 ⌝ }
     ensures { λ r. ⌜ r ≡ has mask rule ⌝ }
@@ -21,7 +20,6 @@ pub fn has_rule(mask: u64, rule: usize) -> bool
     mask & (1u64 << rule) != 0
 }
 
-// The set with the rule added.
 pub fn add_rule(mask: u64, rule: usize) -> u64
     requires { ⌜ rule < 64 ⌝ }
     ensures { λ r. ⌜ Added mask rule r ⌝ }
@@ -57,7 +55,6 @@ pub fn high_half(mask: u64) -> u32
     (mask >> 32) as u32
 }
 
-// The set of which these are the halves.
 pub fn from_halves(low: u32, high: u32) -> u64
     ensures { λ r. ⌜ r ≡ high * 2 ^ 32 + low ⌝ }
 {

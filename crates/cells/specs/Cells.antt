@@ -14,9 +14,19 @@ use Rattle.stored.specs.Stored.{recordsOf, recordSize, treesBytes}
 abbrev pub cells : ℕ
 cells = 2048
 
--- A count in a cell goes no further than 1,001.
+-- The counts of list 0, its records and its trees, stand before the cells, where a cell of its own would have them.
+abbrev pub recordsFrom : ℕ
+recordsFrom = 2045
+
+abbrev pub treesFrom : ℕ
+treesFrom = 2047
+
+-- A count in a cell goes no further.
+abbrev pub mostCounted : ℕ
+mostCounted = 1001
+
 abbrev pub saturated : ℕ → ℕ
-saturated n = min n 1001
+saturated n = min n mostCounted
 
 -- The second of a tree's cell is at least this; that of a join's is below.
 abbrev pub mark : ℕ
@@ -45,19 +55,12 @@ lists words (suc k) = let below = lists words k in below ++ (cellTrees (getD wor
 unfoldable pub treesAt : List ℕ → ℕ → Trees
 treesAt words list = getD (lists words list) list no-trees
 
--- The words of the two counts of list 0, which has no cell.
-abbrev pub recordsOfNone : ℕ
-recordsOfNone = 2045
-
-abbrev pub treesOfNone : ℕ
-treesOfNone = 2047
-
 -- The saturated counts of a list: its records, and its trees.
 abbrev pub recordsWord : List ℕ → ℕ → ℕ
-recordsWord words list = getD words (recordsOfNone + 4 * list) 0
+recordsWord words list = getD words (recordsFrom + 4 * list) 0
 
 abbrev pub treesWord : List ℕ → ℕ → ℕ
-treesWord words list = getD words (treesOfNone + 4 * list) 0
+treesWord words list = getD words (treesFrom + 4 * list) 0
 
 -- Cell k written: its first, its records, its second, its trees.
 unfoldable pub withCell : List ℕ → ℕ → ℕ → ℕ → ℕ → ℕ → List ℕ

@@ -4,8 +4,8 @@
 // tree over the list of its children, or two lists joined, and holds how many records and how many trees its list has, both at most
 // 1,001: joined twice, a list doubles, so a plain count would not fit. Words 2045 and 2047 hold the two counts of list 0.
 // specs/Cells says which trees a list stands for, as a function of the words; specs/Arena what is kept true (Arena) and what making a list
-// leaves (Made). proofs/Frame has the laws that a caller cites: what is written below word 2045 or above the cells keeps every list, and so
-// does every cell that is added.
+// leaves (Made). proofs/Frame has the laws that a caller cites: where the words of the cells are the same every list is, so after what is
+// written below word 2045.
 
 ghost use mathlib.Core.Path.{_≡_};
 ghost use Prim.Native.Nat.{ℕ, _+_, _*_, _<_, _≤_};
@@ -14,7 +14,7 @@ ghost use lib.ListN.{length};
 ghost use lib.Seq.{sets};
 ghost use Rattle.meaning.specs.Grammar.{no-trees, tree, _⋈_};
 ghost use Rattle.stored.specs.Stored.{recordsOf, numberOf, recordSize, storedLength, withStored};
-ghost use Rattle.cells.specs.Cells.{saturated, recordsOfNone, treesAt, withCell, withTree, withJoin, joined, joinOf, Wrote};
+ghost use Rattle.cells.specs.Cells.{cells, recordsFrom, mark, saturated, treesAt, withCell, withTree, withJoin, joined, joinOf, Wrote};
 ghost use Rattle.cells.specs.Arena.{Arena, Made};
 
 // Where the cells start.
@@ -47,8 +47,8 @@ pub struct Held {
 
 // Makes ready for the first cell: list 0 has no records and no trees.
 pub fn no_cells(work: &mut [u32])
-    requires { ⌜ 2048 ≤ length (now work) ⌝ }
-    ensures words { λ _. ⌜ now (work .exit) ≡ sets (now (work .entry)) recordsOfNone (0 ∷ 0 ∷ 0 ∷ []) ⌝ }
+    requires { ⌜ cells ≤ length (now work) ⌝ }
+    ensures words { λ _. ⌜ now (work .exit) ≡ sets (now (work .entry)) recordsFrom (0 ∷ 0 ∷ 0 ∷ []) ⌝ }
     ensures arena { λ _. ⌜ Arena (now (work .exit)) 0 ⌝ }
 {
     work[RECORDS_OF] = 0;
@@ -66,9 +66,8 @@ fn saturate(n: u32) -> u32
     MOST_COUNTED
 }
 
-// Writes a cell.
 fn put_cell(work: &mut [u32], top: u32, first: u32, second: u32, records: u32, trees: u32)
-    requires { ⌜ 2048 + 4 * top + 3 < length (now work) ⌝ }
+    requires { ⌜ cells + 4 * top + 3 < length (now work) ⌝ }
     ensures { λ _. ⌜ now (work .exit) ≡ withCell (now (work .entry)) top first second records trees ⌝ }
 {
     let at = CELLS + 4 * top as usize;
@@ -97,7 +96,7 @@ fn trees_of(work: &[u32], list: u32) -> u32
 // Makes the list top + 1: one tree.
 pub fn put_tree(work: &mut [u32], top: u32, rule: u32, start: u32, end: u32, children: u32)
     requires arena { ⌜ Arena (now work) top × (children ≤ top) ⌝ }
-    requires room { ⌜ (2048 + 4 * top + 3 < length (now work)) × (top < 1073741823) ⌝ }
+    requires room { ⌜ (cells + 4 * top + 3 < length (now work)) × (top + 1 < mark) ⌝ }
     requires small { ⌜ (rule < 64) × ((start < 4096) × (end < 4096)) ⌝ }
     ensures words { λ _. ⌜ now (work .exit) ≡ withTree (now (work .entry)) top rule start end children ⌝ }
     ensures made { λ _. ⌜ Made (now (work .entry)) (now (work .exit)) top (top + 1) (top + 1) (tree rule start end (treesAt (now (work .entry)) children) no-trees) ⌝ }
@@ -116,7 +115,7 @@ pub fn put_tree(work: &mut [u32], top: u32, rule: u32, start: u32, end: u32, chi
 // Joins two lists that are not empty, as the list top + 1.
 fn put_join(work: &mut [u32], top: u32, left: u32, right: u32)
     requires arena { ⌜ Arena (now work) top × ((left ≤ top) × (right ≤ top)) ⌝ }
-    requires room { ⌜ (2048 + 4 * top + 3 < length (now work)) × (top < 1073741823) ⌝ }
+    requires room { ⌜ (cells + 4 * top + 3 < length (now work)) × (top + 1 < mark) ⌝ }
     ensures { λ _. ⌜ now (work .exit) ≡ withJoin (now (work .entry)) top left right ⌝ }
 {
     let records = saturate(
@@ -129,7 +128,7 @@ fn put_join(work: &mut [u32], top: u32, left: u32, right: u32)
 // Joins two lists; no cell is made where a side is empty.
 pub fn join(work: &mut [u32], top: u32, left: u32, right: u32) -> Held
     requires arena { ⌜ Arena (now work) top × ((left ≤ top) × (right ≤ top)) ⌝ }
-    requires room { ⌜ (2048 + 4 * top + 3 < length (now work)) × (top < 1073741823) ⌝ }
+    requires room { ⌜ (cells + 4 * top + 3 < length (now work)) × (top + 1 < mark) ⌝ }
     ensures words { λ r. ⌜ joined (now (work .exit)) (r .list) (r .top) ≡ joinOf (now (work .entry)) top left right ⌝ }
     ensures made { λ r. ⌜ Made (now (work .entry)) (now (work .exit)) top (r .list) (r .top) (treesAt (now (work .entry)) left ⋈ treesAt (now (work .entry)) right) ⌝ }
 {

@@ -1,7 +1,7 @@
 -- Demand 1: every call is answered by the row of 01's table of codes whose condition holds, with that row's numbers and buffers, and by no other.
 use mathlib.Core.Path.{_≡_, refl, sym, ap, subst, _∙_}
-use mathlib.Core.Logic.{_↔_, _≢_, _⊎_, inl, inr, Iff·trans, Iff·and, Iff·rfl}
-use mathlib.Core.Bool.{true, _&&_, _||_, and-eq-true-iff}
+use mathlib.Core.Logic.{_↔_, _≢_, _⊎_, inl, inr, Iff·rfl}
+use mathlib.Core.Bool.{true, _&&_, _||_}
 use mathlib.Core.List.{List}
 use mathlib.Mathlib.Data.Bool.Basic.{or-eq-false-eq-eq-false-and-eq-false}
 use Prim.Native.Nat.{ℕ, _<_, _≤_}
@@ -17,7 +17,7 @@ use Rattle.sheet.specs.Table.{WellFormed}
 use Rattle.sheet.specs.Check.{READ, checkOf, verdict, Accepted}
 use Rattle.sheet.specs.Given as sheet
 use Rattle.sheet.proofs.Exact as exact
-use Rattle.sheet.proofs.Tests.{failed-iff}
+use Rattle.sheet.proofs.Tests.{ltb-iff, both, failed-iff}
 use Rattle.stored.specs.Stored.{recordsOf, storedLength}
 use Rattle.reader.specs.Answer.{FAIL, ROOM, longestLine, mostAllowance, mostRecords, positionWidth, Outcome, cleared, matchOutcome, runOutcome, readingOf, Leaves}
 use Rattle.reader.specs.declared.Reading.{Reading}
@@ -26,7 +26,7 @@ use Rattle.koskorbelu.specs.Demands.{allow, work, taken, Demand1}
 
 module _ (c : Call) where
   ends-iff : (e : ℕ) → ((c .whole && ltb e (length (c .line))) ≡ true) ↔ EndsBefore c e
-  ends-iff e = Iff·trans (and-eq-true-iff _ _) (Iff·and Iff·rfl (ltb-true _ _, lt-ltb _ _))
+  ends-iff e = both _ _ Iff·rfl (ltb-iff _ _)
 
   -- ---- What is given is what comes back.
   accepted : WellFormed (c .table) → checkOf (c .table) ≡ verdict READ 0

@@ -1,5 +1,5 @@
--- Demand 2: a line that is read to its answer has the bounded rules' match and tree, the only ones, in the visits that 01 counts. Beyond it: such an answer is found
--- wherever the allowance and the depth suffice, and there always is one.
+-- Demand 2: a line that is read to its answer has the bounded rules' match and tree, the only ones, in the visits that 01 counts. Beyond it: there always is such an
+-- answer, and on a sheet that is not free it comes back wherever the allowance suffices, or DEEP does.
 use mathlib.Core.Path.{_≡_, refl, sym, ap, subst, _∙_}
 use mathlib.Core.Bool.{true}
 use mathlib.Core.Logic.{_↔_, _≢_, _⊎_, inl, inr}
@@ -150,7 +150,7 @@ module _ (c : Call) where
             let z : (r′ ≡ r) × (made (c .allowance) s ≡ n) = rw m at (claims.other-complete (grammar c) (c .line) (c .allowance) (is-closed (t .sheet)) not-free h le) in
             inr (rw (q, ← (z .0), ← (z .1)) k)
 
-    -- Where the depth suffices, EFFORT comes back exactly if fewer visits are allowed.
+    -- Unless DEEP comes back, EFFORT does exactly if fewer visits are allowed.
     pub effort-exactly : code (back c) ≢ DEEP → (code (back c) ≡ EFFORT) ↔ (c .allowance < n)
     effort-exactly shallow = ((λ e. let few : ¬ (n ≤ c .allowance) = λ le. not-both e (complete le) in omega arith), (λ l. of l (came c t) refl))
       where

@@ -2,14 +2,14 @@
 use mathlib.Core.Path.{_≡_, refl, ap, subst, _∙_}
 use mathlib.Core.Bool.{Bool, true, false, _&&_, cond, and-eq-true-iff}
 use mathlib.Core.List.{List, [], _∷_, _++_, map, head-eq-of-cons-eq, tail-eq-of-cons-eq}
-use Prim.Native.Nat.{ℕ, zero, suc, _-_, _≤_}
+use Prim.Native.Nat.{ℕ, zero, suc, _≤_}
 use native.Mathlib.Omega.{arith}
 use borrow.Author.Tests.{leb-true, le-ltb}
 use lib.Dec.{leb, ltb}
 use lib.ListN.{length, drop}
 use Rattle.meaning.specs.Grammar.{Trees, fail, ok, wrap, fits, look}
 use Rattle.meaning.specs.Decide.{emptyNodes, ledTo, reach, isFree}
-use Rattle.meaning.specs.Reading.{Run, after, byte, joined, second, otherwise, repeatFrom, repeated, wrapped, apply, longer, attempted, grow, firstAttempt, useLive, keep, counted, useRule}
+use Rattle.meaning.specs.Reading.{made, Run, after, byte, joined, second, otherwise, repeatFrom, repeated, wrapped, apply, longer, attempted, grow, firstAttempt, useLive, keep, counted, useRule}
 use Rattle.meaning.specs.Reading.{recall, visited, visit, readBy, read}
 use Rattle.meaning.specs.Reading as reading
 use Rattle.meaning.specs.Report.{bound}
@@ -37,7 +37,6 @@ pub record Line : Type 0 where
 abbrev pub call : Line → (work room : List ℕ) → Call
 call l work room = record { whole = l .whole; table = l .table; line = l .line; allowance = l .allowance; work = work; room = room }
 
--- The claim.
 abbrev pub Holds : Line → Type 0
 Holds l = (work room : List ℕ) → needed (call l work room) ≤ length work → length (l .stored) ≤ length room
     → back (call l work room) ≡ record { reading = l .numbers; work = cleared (needed (call l work room)) work; room = l .stored ++ drop (length (l .stored)) room }
@@ -126,10 +125,10 @@ matched whole long e ts visits =
     (cond (ltb mostRecords (recordsOf ts)) (only (numbers RECORDS e e visits 1001)) (record { numbers = numbers READ 0 e visits (recordsOf ts); bytes = storedOf positionWidth ts }))
 
 unfoldable roomy : (whole : Bool) (long allowance : ℕ) → Run → Stored
-roomy whole long allowance (Run.effort p s) = only (numbers EFFORT p 0 (allowance - s .left) 0)
-roomy whole long allowance (Run.deep p s) = only (numbers DEEP p 0 (allowance - s .left) 0)
-roomy whole long allowance (Run.done fail s) = only (numbers FAIL 0 0 (allowance - s .left) 0)
-roomy whole long allowance (Run.done (ok e ts) s) = matched whole long e ts (allowance - s .left)
+roomy whole long allowance (Run.effort p s) = only (numbers EFFORT p 0 (made allowance s) 0)
+roomy whole long allowance (Run.deep p s) = only (numbers DEEP p 0 (made allowance s) 0)
+roomy whole long allowance (Run.done fail s) = only (numbers FAIL 0 0 (made allowance s) 0)
+roomy whole long allowance (Run.done (ok e ts) s) = matched whole long e ts (made allowance s)
 
 -- An outcome has these numbers, and leaves these working numbers and these bytes at the room's front.
 abbrev Same : (work room : List ℕ) → Stored → Outcome → Type 0
@@ -148,7 +147,7 @@ module _ (whole : Bool) (long : ℕ) (work room : List ℕ) where
   of-run allowance (Run.effort p s) h = refl
   of-run allowance (Run.deep p s) h = refl
   of-run allowance (Run.done fail s) h = refl
-  of-run allowance (Run.done (ok e ts) s) h = of-match e ts (allowance - s .left) h
+  of-run allowance (Run.done (ok e ts) s) h = of-match e ts (made allowance s) h
 
 -- What computes of a line: the check's code, whether the line and the allowance are in range, and what comes back.
 record Computed : Type 0 where

@@ -3,15 +3,15 @@
 use mathlib.Core.Path.{_≡_, refl, subst}
 use Prim.Native.Nat.{ℕ, _+_, _<_, _≤_}
 use mathlib.Core.Bool.{Bool, true, false}
-use mathlib.Core.List.{List, []}
+use mathlib.Core.List.{List}
 use lib.ListN.{length}
 use native.Mathlib.Omega.{arith}
-use Rattle.meaning.specs.Grammar.{Node, rule, Grammar, rootOf, Closed, Trees, Answer, ok, wrap, look}
-use Rattle.meaning.specs.Rules.{at, Plain, var, Bounded, Reads}
-use Rattle.meaning.specs.Report.{MayBeEmpty, Free, bound}
+use Rattle.meaning.specs.Grammar.{rule, Grammar, rootOf, Closed, Answer, wrap}
+use Rattle.meaning.specs.Rules.{Plain, var, Reads}
+use Rattle.meaning.specs.Report.{Free, bound}
 use Rattle.meaning.specs.Decide.{isFree}
 use Rattle.meaning.specs.Reading.{made, readBy, read}
-use Rattle.meaning.proofs.Answers.{Same, found}
+use Rattle.meaning.proofs.Answers.{Same}
 use Rattle.meaning.proofs.Runs.{Ends, All, ends-map, ends-both, all-map}
 use Rattle.meaning.proofs.OnePlain.{one-answer}
 use Rattle.meaning.proofs.OneBounded.{one-reading}
@@ -19,9 +19,8 @@ use Rattle.meaning.proofs.Sound.{read-sound}
 use Rattle.meaning.proofs.Complete.{read-complete, read-short}
 use Rattle.meaning.proofs.Kept.{read-plain}
 use Rattle.meaning.proofs.Conserve.{plain-reads}
-use Rattle.meaning.proofs.Spans.{spans}
 use Rattle.meaning.proofs.Answered as A
-use Rattle.meaning.proofs.Free.{span, total}
+use Rattle.meaning.proofs.Free.{total}
 use Rattle.meaning.proofs.Effort.{effort-left}
 use Rattle.meaning.proofs.Ceiling.{visits-at-most, never-effort}
 use Rattle.meaning.proofs.Decided.{free-iff}
@@ -105,11 +104,3 @@ module _ (g : Grammar) (line : List ℕ) where
     unfolding read
     effort-made = ends-map (readBy g line (isFree g) allowance) (effort-left g line (isFree g) allowance)
         (λ t h. (h, omega arith)) (λ t h. let z = h .1 in (h .0, omega arith)) (λ r t h. omega arith)
-
-  -- A node that matches without consuming may be empty, by the plain rules and by the bounded ones with nothing live.
-  pub plain-empty : {p : Node} {x : ℕ} {ts : Trees} → Plain g line p x (ok x ts) → MayBeEmpty g p
-  plain-empty h = span g line h .empty (omega arith)
-
-  pub bounded-empty : {p : Node} {x n : ℕ} {ts : Trees} → Bounded g line [] (at p) x (ok x ts) n → MayBeEmpty g p
-  unfolding look
-  bounded-empty h = spans g line h (λ b w q e. found refl e) .empty (omega arith)

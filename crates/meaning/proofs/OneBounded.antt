@@ -73,7 +73,6 @@ module _ (g : Grammar) (line : List ℕ) where
   det (inc3 h p) (inc2 k) = never (det h k .answer)
   det (inc3 h p) (inc3 k q) = record { answer = refl; count = det h k .count }
 
-  -- A repetition matches.
   pub rep-matches : {A : Type 0} {l : List Note} {a x n : ℕ} {r : Answer} → Bounded g line l (at (rep a)) x r n → r ≡ fail → A
   rep-matches (rep1 h) e = never e
   rep-matches (rep2 h q k) e = never e

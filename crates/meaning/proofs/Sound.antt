@@ -113,7 +113,6 @@ module _ (g : Grammar) (line : List ℕ) where
       all-map (visited g line false v l i x t) (walk (laws l) (v l) (of-visit d l) (useRule g line false v l) (of-use v (of-visit d) l) i x t)
       (λ r u h. record { visits = suc (h .visits); rules = h .rules; left = omega arith }))
 
-  -- The whole reading.
   pub read-sound : (allowance : ℕ) → All (λ r t. (n : ℕ) × Reads g line r n × (allowance ≡ n + t .left)) (readBy g line false allowance)
   unfolding readBy
   read-sound allowance =

@@ -66,7 +66,6 @@ unfolding widened
 has-widened row k set b =
     by-test (λ s. has s b ≡ (has set b || has set k && has row b)) (has set k) _ _ (λ e. rw e (has-or set row b)) (λ e. rw e (sym (or-false (has set b))))
 
--- One turn more.
 pub turned : (first old new : List ℕ) (r k : ℕ) → k < r → ((a b : ℕ) → a < r → inSet old a b ≡ led (inSet first) k a b)
     → ((a : ℕ) → a < r → getD new a 0 ≡ widened (getD old k 0) k (getD old a 0)) → (a b : ℕ) → a < r → inSet new a b ≡ led (inSet first) (k + 1) a b
 unfolding led

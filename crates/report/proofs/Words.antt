@@ -86,7 +86,6 @@ module _ (g : Grammar) (known : ℕ) (w : List ℕ) where
       put-above (passed g known w n) n _ k h
       ∙ passed-rest n k (omega arith)
 
-  -- One node more.
   pub passed-next : (i : ℕ) (v : List ℕ) (x : Facts) → v ≡ passed g known w i → x ≡ factsOf (factsAt v) known (node g i) → put v i x ≡ passed g known w (i + 1)
   unfolding passed
   passed-next i v x so-far e = rw (add-one i, e, so-far)

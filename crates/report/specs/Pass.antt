@@ -25,7 +25,6 @@ only a = (1 * 2 ^ a) % 2 ^ 64
 unfoldable pub inRow : Facts → Facts → Facts
 inRow x y = cond (x .empty) (facts (bitOr (x .starts) (y .starts)) (y .empty)) x
 
--- One node, or another.
 unfoldable pub oneOf : Facts → Facts → Facts
 oneOf x y = facts (bitOr (x .starts) (y .starts)) (x .empty || y .empty)
 

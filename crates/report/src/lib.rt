@@ -113,7 +113,6 @@ fn in_row(x: Facts, y: Facts) -> Facts
     x
 }
 
-// One node, or another.
 fn one_of(x: Facts, y: Facts) -> Facts
     ensures { λ r. ⌜ r ≡ oneOf x y ⌝ }
 {

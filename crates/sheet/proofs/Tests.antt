@@ -13,13 +13,13 @@ use Rattle.sheet.specs.Check.{READ, inRange, countsFit, allEqual, rootFa
 leb-iff : (a b : ℕ) → (leb a b ≡ true) ↔ (a ≤ b)
 leb-iff a b = (leb-true a b, le-leb a b)
 
-ltb-iff : (a b : ℕ) → (ltb a b ≡ true) ↔ (a < b)
+pub ltb-iff : (a b : ℕ) → (ltb a b ≡ true) ↔ (a < b)
 ltb-iff a b = (ltb-true a b, lt-ltb a b)
 
 eqb-iff : (a b : ℕ) → (eqb a b ≡ true) ↔ (a ≡ b)
 eqb-iff a b = (eqb-true a b, eq-eqb a b)
 
-both {ℓ} : {P Q : Type ℓ} (p q : Bool) → (p ≡ true) ↔ P → (q ≡ true) ↔ Q → ((p && q) ≡ true) ↔ (P × Q)
+pub both {ℓ} : {P Q : Type ℓ} (p q : Bool) → (p ≡ true) ↔ P → (q ≡ true) ↔ Q → ((p && q) ≡ true) ↔ (P × Q)
 both p q e f = Iff·trans (and-eq-true-iff p q) (Iff·and e f)
 
 in-range-iff : (count most : ℕ) → (inRange count most ≡ true) ↔ ((1 ≤ count) × (count ≤ most))

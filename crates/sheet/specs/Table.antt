@@ -102,6 +102,5 @@ abbrev pub each {ℓ} : {A : Type ℓ} → (ℕ → A) → (i k : ℕ) → List 
 each f i zero = []
 each f i (suc k) = f i ∷ each f (suc i) k
 
--- The grammar that a table is.
 unfoldable pub grammarOf : List ℕ → Grammar
 grammarOf t = record { nodes = each (nodeOf t) 0 (nodesOf t); roots = each (rootOf t) 0 (rulesOf t) }

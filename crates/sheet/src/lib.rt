@@ -60,7 +60,6 @@ fn pair(table: &[u8], at: usize) -> usize
     wide(table[at]) * 256 + wide(table[at + 1])
 }
 
-// Both tests, as one.
 fn both(p: bool, q: bool) -> bool
     ensures { λ r. ⌜ r ≡ (p && q) ⌝ }
 {
@@ -219,7 +218,6 @@ pub fn rule_count(table: &[u8]) -> usize
     pair(table, 5)
 }
 
-// The root of rule a.
 pub fn root(table: &[u8], a: usize) -> usize
     requires { ⌜ Accepted (now table) × (a < rulesOf (now table)) ⌝ }
     ensures { λ i. ⌜ (i ≡ rootOf (now (table .entry)) a) × (i < nodesOf (now (table .entry))) ⌝ }

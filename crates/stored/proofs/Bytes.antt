@@ -34,7 +34,6 @@ pub length-stored : (w : ℕ) (ts : Trees) → length (storedOf w ts) ≡ stored
 unfolding storedOf
 length-stored w ts = length-append (headBytes w (recordsOf ts)) _ ∙ rw (length-head w (recordsOf ts), length-trees w ts)
 
--- Lists joined.
 pub bytes-join : (w : ℕ) (ts us : Trees) → treesBytes w (ts ⋈ us) ≡ treesBytes w ts ++ treesBytes w us
 unfolding treesBytes
 bytes-join w no-trees us = refl
@@ -54,7 +53,6 @@ pub join-none : (ts : Trees) → ts ⋈ no-trees ≡ ts
 join-none no-trees = refl
 join-none (tree a x e cs ts) = rw (join-none ts)
 
--- One tree.
 pub records-tree : (a x e : ℕ) (cs : Trees) → recordsOf (tree a x e cs no-trees) ≡ 1 + recordsOf cs
 unfolding recordsOf
 records-tree a x e cs = omega arith

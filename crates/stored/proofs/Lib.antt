@@ -7,4 +7,3 @@ pub mod Written
 pub mod ReadBack
 pub mod Taking
 pub mod OneTree
-pub mod Worked

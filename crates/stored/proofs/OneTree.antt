@@ -20,7 +20,6 @@ use Rattle.stored.proofs.Records.{listed, length-listed}
 use Rattle.stored.proofs.ReadBack.{tree-back, read-back}
 use Rattle.stored.proofs.Taking.{only}
 
--- The bytes of records.
 abbrev bytesOf : ℕ → List Record → List ℕ
 bytesOf w [] = []
 bytesOf w (x ∷ xs) = recordBytes w (x .rule) (x .start) (x .end) (x .number) ++ bytesOf w xs

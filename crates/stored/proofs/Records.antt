@@ -13,7 +13,6 @@ use Rattle.stored.specs.Nested.{Fits}
 use Rattle.stored.proofs.Bytes.{length-inBytes, length-record, length-head, length-trees}
 use Rattle.stored.proofs.Goes.{number-one}
 
--- A number is read back.
 number-back : (w x at : ℕ) (before after : List ℕ) → length before ≡ at → x < 256 ^ w → numberAt w (before ++ (inBytes w x ++ after)) at ≡ x
 unfolding numberAt inBytes
 number-back zero x at before after e h = omega arith
@@ -24,7 +23,6 @@ number-back (suc w) x at before after e h =
     ap (λ (n : ℕ). getD (before ++ (high ++ ((x % 256 ∷ []) ++ after))) (n + w) 0) (sym e) ∙ getD-append-add before _ w 0 ∙ getD-at high (x % 256) after 0 w (length-inBytes w (x / 256)) in
     rw (append-assoc high (x % 256 ∷ []) after) (rw (i, g) (omega arith))
 
--- A record is read back.
 record-back : (w a x e n at : ℕ) (before after bytes : List ℕ) → length before ≡ at → bytes ≡ before ++ (recordBytes w a x e n ++ after) → a < 256 → x < 256 ^ w → e < 256 ^ w → n < 65536
     → recordAt w bytes at ≡ record { rule = a; start = x; end = e; number = n }
 unfolding recordAt recordBytes

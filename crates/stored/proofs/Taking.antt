@@ -83,7 +83,6 @@ gather r l start high (suc n) bound (tree a x e cs us) ts vs h p q t =
       records = g .records ∙ simp append-assoc;
     }
 
--- One record more.
 stepped : (r l : ℕ) (x : Record) (done : List Record) (us vs : List Span) → Stack r l done us → inRange r l x ≡ true → takes (x .number) (x .start) (x .end) us ≡ untaken vs
     → Stack r l (done ++ (x ∷ [])) (record { start = x .start; end = x .end } ∷ vs)
 unfolding Nested numberOf

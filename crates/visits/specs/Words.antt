@@ -10,7 +10,7 @@ use lib.ListN.{length, getD, set}
 use lib.Seq.{sets}
 use Rattle.meaning.specs.Grammar.{Trees, no-trees, tree, Answer, fail, ok, Note, look}
 use Rattle.meaning.specs.Reading.{State, EFFORT, DEEP}
-use Rattle.cells.specs.Cells.{recordsOfNone, treesAt}
+use Rattle.cells.specs.Cells.{recordsFrom, treesAt}
 use Rattle.cells.specs.Arena.{Arena}
 use Rattle.visits.specs.Given.{Given, longestLine, mostAllowance, nodesIn, keepsIn, baseIn, allowanceIn, pairsIn, roomIn, leftIn}
 
@@ -85,7 +85,7 @@ pub record Words (given : Given) (line w : List ℕ) (live top : ℕ) : Type 0 w
 -- The words that a visit leaves as they are: those of the live uses, of the cells below top, and all past the room.
 pub record Same (given : Given) (line old new : List ℕ) (live top : ℕ) : Type 0 where
   pub uses : (i : ℕ) → i < live * 3 → getD new i 0 ≡ getD old i 0
-  pub cells : (i : ℕ) → recordsOfNone ≤ i → i < 2048 + 4 * top → getD new i 0 ≡ getD old i 0
+  pub cells : (i : ℕ) → recordsFrom ≤ i → i < 2048 + 4 * top → getD new i 0 ≡ getD old i 0
   pub past : (i : ℕ) → roomIn given line ≤ i → getD new i 0 ≡ getD old i 0
 
 -- The pair of a rule and a position is not live.

@@ -1,4 +1,3 @@
--- `add_rule` meets its contract.
 use Rattle.bits.proofs.Digits.{added}
 use borrow.Author.Needs.{needs}
 use Rattle.bits.proofs.add_rule.Statement.{statement}

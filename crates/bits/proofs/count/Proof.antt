@@ -1,4 +1,3 @@
--- `count` meets its contract.
 use Rattle.bits.proofs.Digits.{counted}
 use Rattle.bits.proofs.count.Statement.{statement}
 use Rattle.bits.proofs.count.Tie as tie

@@ -1,4 +1,3 @@
--- `from_halves` meets its contract.
 use Rattle.bits.proofs.Digits.{from-halves}
 use Rattle.bits.proofs.from_halves.Statement.{statement}
 use Rattle.bits.proofs.from_halves.Tie as tie

@@ -1,4 +1,3 @@
--- `has_rule` meets its contract.
 use Rattle.bits.proofs.Digits.{has-test}
 use borrow.Author.Needs.{needs}
 use Rattle.bits.proofs.has_rule.Statement.{statement}

@@ -1,4 +1,3 @@
--- `low_half` meets its contract.
 use lib.Bits.{and-mask, mask-lt}
 use Rattle.bits.proofs.low_half.Statement.{statement}
 use Rattle.bits.proofs.low_half.Tie as tie

@@ -1,4 +1,3 @@
--- `lowest` meets its contract.
 use Rattle.bits.proofs.Digits.{lowest-is}
 use Rattle.bits.proofs.lowest.Statement.{statement}
 use Rattle.bits.proofs.lowest.Tie as tie

@@ -1,4 +1,3 @@
--- `put_cell` writes the four words of a cell.
 use native.Mathlib.Omega.{arith}
 use mathlib.Core.List.{[], _∷_}
 use lib.ListN.{length-set}

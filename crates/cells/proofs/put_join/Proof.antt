@@ -1,4 +1,3 @@
--- `put_join` writes the cell of two lists joined.
 use mathlib.Core.Path.{_∙_}
 use native.Mathlib.Omega.{arith}
 use borrow.Author.Needs.{needs}

@@ -1,4 +1,3 @@
--- `put_tree` makes a list of one tree.
 use mathlib.Core.Path.{_≡_, _∙_}
 use native.Mathlib.Omega.{arith}
 use borrow.Author.Needs.{needs}

@@ -1,4 +1,3 @@
--- `records_of` reads the count of records, which is right.
 use native.Mathlib.Omega.{arith}
 use borrow.Author.Needs.{needs}
 use Rattle.cells.proofs.records_of.Tie as tie

@@ -1,4 +1,3 @@
--- `trees_of` reads the count of trees, which is right.
 use native.Mathlib.Omega.{arith}
 use borrow.Author.Needs.{needs}
 use Rattle.cells.proofs.trees_of.Tie as tie

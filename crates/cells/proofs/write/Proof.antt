@@ -1,4 +1,3 @@
--- `write` writes the stored reading of a list of trees.
 use native.Mathlib.Omega.{arith}
 use borrow.Author.Needs.{needs}
 use Rattle.stored.proofs.Bytes.{small-length}

@@ -1,4 +1,3 @@
--- `kos_check` meets its contract.
 use Rattle.koskorbelu.proofs.Face.{check-written}
 use borrow.Author.Needs.{needs}
 use Rattle.koskorbelu.proofs.kos_check.Statement.{statement}

@@ -1,4 +1,3 @@
--- `kos_read_whole` meets its contract.
 use Rattle.koskorbelu.proofs.Face.{read-written}
 use borrow.Author.Needs.{needs}
 use Rattle.koskorbelu.proofs.kos_read_whole.Statement.{statement}

@@ -1,4 +1,3 @@
--- `kos_report` meets its contract.
 use mathlib.Core.Path.{refl}
 use Rattle.koskorbelu.specs.Face.{reportNumbers}
 use borrow.Author.Needs.{needs}

@@ -1,4 +1,3 @@
--- `first` meets its contract.
 use borrow.Author.Tests.{eq-eqb, ne-eqb}
 use Rattle.sheet.proofs.first.Statement.{statement}
 use Rattle.sheet.proofs.first.Tie as tie

@@ -1,4 +1,3 @@
--- `node_fault` meets its contract.
 use borrow.Author.Needs.{needs}
 use Rattle.sheet.specs.Table.{kindOf, fieldOf}
 use Rattle.sheet.specs.Check.{nodeFault}

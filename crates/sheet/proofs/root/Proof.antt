@@ -1,4 +1,3 @@
--- `root` meets its contract.
 use native.Mathlib.Omega.{arith}
 use Rattle.sheet.specs.Table.{rootOf, formula}
 use Rattle.sheet.proofs.Accepting.{well-formed}

@@ -1,4 +1,3 @@
--- `rule_count` meets its contract.
 use native.Mathlib.Omega.{arith}
 use Rattle.sheet.specs.Table.{rulesOf, formula}
 use Rattle.sheet.proofs.Accepting.{well-formed}

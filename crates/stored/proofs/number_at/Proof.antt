@@ -1,4 +1,3 @@
--- `number_at` reads a number of one or two bytes.
 use mathlib.Core.Path.{_∙_}
 use native.Mathlib.Omega.{arith}
 use borrow.Author.Needs.{needs}

@@ -1,4 +1,3 @@
--- `put_number` writes the bytes of a number.
 use native.Mathlib.Omega.{arith}
 use lib.ListN.{length-set}
 use borrow.Author.Needs.{needs}
