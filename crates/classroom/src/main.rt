@@ -1,8 +1,8 @@
 // Reads lines by the sheet in the file class.gram, whole-line, and prints one line of text for each.
 use libc::STDIN_FILENO;
 use libc::STDOUT_FILENO;
+use page::Page;
 use reader::Reading;
-use text::Page;
 
 const ALLOWANCE: u64 = 2_500;
 
@@ -26,31 +26,31 @@ type Line = [u8; LINE];
 
 fn put_name(page: &mut Page, used: usize, code: u64) -> usize {
     match code {
-        0 => text::put_all(page, used, b"READ"),
-        1 => text::put_all(page, used, b"SHORT"),
-        2 => text::put_all(page, used, b"VERSION"),
-        3 => text::put_all(page, used, b"COUNT"),
-        4 => text::put_all(page, used, b"LENGTH"),
-        5 => text::put_all(page, used, b"ROOT"),
-        6 => text::put_all(page, used, b"KIND"),
-        7 => text::put_all(page, used, b"FIELD"),
-        8 => text::put_all(page, used, b"LINE"),
-        9 => text::put_all(page, used, b"ALLOW"),
-        10 => text::put_all(page, used, b"WORK"),
-        11 => text::put_all(page, used, b"EFFORT"),
-        12 => text::put_all(page, used, b"DEEP"),
-        13 => text::put_all(page, used, b"FAIL"),
-        14 => text::put_all(page, used, b"REST"),
-        15 => text::put_all(page, used, b"RECORDS"),
-        16 => text::put_all(page, used, b"ROOM"),
+        0 => page::put_all(page, used, b"READ"),
+        1 => page::put_all(page, used, b"SHORT"),
+        2 => page::put_all(page, used, b"VERSION"),
+        3 => page::put_all(page, used, b"COUNT"),
+        4 => page::put_all(page, used, b"LENGTH"),
+        5 => page::put_all(page, used, b"ROOT"),
+        6 => page::put_all(page, used, b"KIND"),
+        7 => page::put_all(page, used, b"FIELD"),
+        8 => page::put_all(page, used, b"LINE"),
+        9 => page::put_all(page, used, b"ALLOW"),
+        10 => page::put_all(page, used, b"WORK"),
+        11 => page::put_all(page, used, b"EFFORT"),
+        12 => page::put_all(page, used, b"DEEP"),
+        13 => page::put_all(page, used, b"FAIL"),
+        14 => page::put_all(page, used, b"REST"),
+        15 => page::put_all(page, used, b"RECORDS"),
+        16 => page::put_all(page, used, b"ROOM"),
         _ => used,
     }
 }
 
 // A blank and a number.
 fn put_next(page: &mut Page, used: usize, number: u64) -> usize {
-    let at = text::put(page, used, b' ');
-    text::put_number(page, at, number)
+    let at = page::put(page, used, b' ');
+    page::put_number(page, at, number)
 }
 
 // A refusal: the code's name, place and visits.
@@ -58,7 +58,7 @@ fn put_refusal(page: &mut Page, used: usize, code: u64, place: u64, visits: u64)
     let mut at = put_name(page, used, code);
     at = put_next(page, at, place);
     at = put_next(page, at, visits);
-    text::put(page, at, LF)
+    page::put(page, at, LF)
 }
 
 // READ, matched, visits and records, or a refusal.
@@ -70,7 +70,7 @@ fn put_answer(page: &mut Page, used: usize, answer: Reading) -> usize {
     at = put_next(page, at, answer.matched);
     at = put_next(page, at, answer.visits);
     at = put_next(page, at, answer.records);
-    text::put(page, at, LF)
+    page::put(page, at, LF)
 }
 
 fn read_line(
@@ -104,7 +104,7 @@ fn take(
     let length = progress.length;
     let used = progress.used;
     if byte == LF {
-        let used = read_line(table, text::front(line, length), work, room, page, used);
+        let used = read_line(table, page::front(line, length), work, room, page, used);
         return Progress { length: 0, used };
     }
     if length < LINE {
@@ -159,9 +159,9 @@ fn read_some(
         };
     }
     let n = io::count(got, &input);
-    let mut page = [0u8; text::SIZE];
+    let mut page = page::blank();
     let progress = take_all(table, &input[..n], line, work, room, &mut page, length);
-    text::send(&page, progress.used);
+    page::send(&mut page, progress.used);
     Turn {
         length: progress.length,
         is_end: false,
@@ -189,9 +189,9 @@ fn read_last(table: &[u8], line: &Line, work: &mut Numbers, room: &mut Room, len
     if length == 0 {
         return;
     }
-    let mut page = [0u8; text::SIZE];
-    let used = read_line(table, text::front(line, length), work, room, &mut page, 0);
-    text::send(&page, used);
+    let mut page = page::blank();
+    let used = read_line(table, page::front(line, length), work, room, &mut page, 0);
+    page::send(&mut page, used);
 }
 
 fn read_lines(table: &[u8]) {
@@ -209,11 +209,11 @@ fn read_by(table: &[u8]) {
         read_lines(table);
         return;
     }
-    let mut page = [0u8; text::SIZE];
+    let mut page = page::blank();
     let code = verdict.code as u64;
     let place = verdict.place as u64;
     let used = put_refusal(&mut page, 0, code, place, 0);
-    text::send(&page, used);
+    page::send(&mut page, used);
 }
 
 // How many bytes of the file stand on the table, and whether the file could be read.
@@ -257,5 +257,5 @@ fn main() {
         no_grammar();
         return;
     }
-    read_by(text::front(&table, loaded.length));
+    read_by(page::front(&table, loaded.length));
 }

@@ -1,22 +1,20 @@
--- `text::put_all` meets its contract. The invariant: what is left, put on the page as it is now, gives the page with all the bytes.
+-- `page::put_all` meets its contract. The invariant: the bytes so far are put.
 use native.Mathlib.Omega.{arith}
-use Rattle.text.proofs.Laws.{one-more, all-put}
 use Prim.Native.Nat.{_≤_, _-_}
-use mathlib.Core.Path.{_≡_, refl, sym, _∙_}
-use lib.ListN.{length, drop}
-use Rattle.text.specs.Page.{page as pageOf, withBytes}
-use Rattle.text.proofs.put_all.Statement.{statement}
-use Rattle.text.proofs.put_all.Tie as tie
+use lib.ListN.{length, take}
+use Rattle.page.specs.Page.{Puts}
+use Rattle.page.proofs.Laws.{puts-none, puts-one, puts-all}
+use Rattle.page.proofs.put_all.Statement.{statement}
+use Rattle.page.proofs.put_all.Tie as tie
 
 abbrev Inv-loop : tie.InvT-loop
-Inv-loop page₀ used bytes at₀ i₀ page at i =
-    (i ≤ length bytes) × (withBytes (pageOf page at) (drop i bytes) ≡ withBytes (pageOf page₀ at₀) bytes)
+Inv-loop page₀ used bytes at₀ i₀ page at i = (i ≤ length bytes) × Puts page₀ at₀ (take i bytes) page at
 
 abbrev μ-loop : tie.MeasureT-loop
 μ-loop page₀ used bytes at₀ i₀ page at i = length bytes - i
 
 loop-holds : tie.Need-loop-holds Inv-loop μ-loop
-loop-holds c = (omega arith, refl)
+loop-holds c = (omega arith, puts-none _ _)
 
 shared-slice-read-put : tie.Need-shared-slice-read-put Inv-loop μ-loop
 shared-slice-read-put c = omega arith
@@ -33,10 +31,10 @@ loop-less c = omega arith
 loop-again : tie.Need-loop-again Inv-loop μ-loop
 loop-again c =
     let l = c .before .before .before .before in
-    (omega arith, one-more _ _ _ _ (c .before .before .before .loop-test .taken) (c .put .ensures) ∙ l .loop .inv .1)
+    (omega arith, puts-one _ _ (c .before .before .before .loop-test .taken) (l .loop .inv .1) (c .put .ensures))
 
 returns : tie.Need-returns Inv-loop μ-loop
-returns c = sym (all-put _ _ _ (c .before .loop .inv .0) (c .loop-test .left)) ∙ c .before .loop .inv .1
+returns c = puts-all _ _ (c .before .loop .inv .0) (c .loop-test .left) (c .before .loop .inv .1)
 
 pub put-all-spec : {M : Type 1} → statement M
 put-all-spec =

@@ -1,10 +1,10 @@
--- `text::front` meets its contract: of a list that is short, all is taken.
+-- `page::front` meets its contract: of a list that is short, all is taken.
 use mathlib.Core.Path.{sym}
 use native.Mathlib.Nat.{le-of-lt}
 use lib.Seq.{take-all, length-take-le}
 use borrow.Author.Needs.{needs}
-use Rattle.text.proofs.front.Statement.{statement}
-use Rattle.text.proofs.front.Tie as tie
+use Rattle.page.proofs.front.Statement.{statement}
+use Rattle.page.proofs.front.Tie as tie
 
 returns : tie.Need-returns
 returns c = sym (take-all _ _ (le-of-lt (c .if1 .taken)))

@@ -1,9 +1,8 @@
--- `text::put_number` meets its contract: it puts the digits that `io::decimal` makes.
-use mathlib.Core.Path.{ap, _∙_}
-use Rattle.text.specs.Page.{withBytes}
+-- `page::put_number` meets its contract: the digits that `io::decimal` makes are the number in decimal.
+use Rattle.page.proofs.Digits.{decimal-digits}
 use borrow.Author.Needs.{needs}
-use Rattle.text.proofs.put_number.Statement.{statement}
-use Rattle.text.proofs.put_number.Tie as tie
+use Rattle.page.proofs.put_number.Statement.{statement}
+use Rattle.page.proofs.put_number.Tie as tie
 
 decimal-requires : tie.Need-decimal-requires
 decimal-requires c κs = search needs
@@ -20,11 +19,7 @@ put-all-requires c κs = search needs
 returns : tie.Need-returns
 returns c =
     let d = c .before .before .before .decimal in
-    record {
-      places = d .result;
-      fewest = d .ensures .1 .0;
-      spelled = c .put-all .ensures ∙ ap (withBytes _) (d .ensures .1 .1);
-    }
+    rw (← decimal-digits _ _ (d .ensures .1 .0), ← d .ensures .1 .1) (c .put-all .ensures)
 
 pub put-number-spec : {M : Type 1} → statement M
 put-number-spec =
