@@ -1,9 +1,9 @@
--- `classroom::take_all` is safe and ends: the bytes that are left are fewer at each turn.
+-- `lesson::lines::take_all` is safe and ends: the bytes that are left are fewer at each turn.
 use borrow.Author.Needs.{needs}
 use Prim.Native.Nat.{_≤_, _-_}
 use lib.ListN.{length as count}
-use Rattle.classroom.proofs.take_all.Statement.{statement}
-use Rattle.classroom.proofs.take_all.Tie as tie
+use Rattle.lesson.proofs.lines.take_all.Statement.{statement}
+use Rattle.lesson.proofs.lines.take_all.Tie as tie
 
 abbrev Inv-loop : tie.InvT-loop
 Inv-loop table bytes line₀ work₀ room₀ page₀ length progress₀ i₀ line work room page progress i = i ≤ count bytes
@@ -20,6 +20,12 @@ shared-slice-read-take c = search needs
 take-requires : tie.Need-take-requires Inv-loop μ-loop
 take-requires c κs = search needs
 
+failed-requires : tie.Need-failed-requires Inv-loop μ-loop
+failed-requires c κs = search needs
+
+returns : tie.Need-returns Inv-loop μ-loop
+returns c = search needs
+
 add-i : tie.Need-add-i Inv-loop μ-loop
 add-i c = search needs
 
@@ -29,8 +35,8 @@ loop-less c = search needs
 loop-again : tie.Need-loop-again Inv-loop μ-loop
 loop-again c = search needs
 
-returns : tie.Need-returns Inv-loop μ-loop
-returns c = search needs
+returns-2 : tie.Need-returns-2 Inv-loop μ-loop
+returns-2 c = search needs
 
 pub take-all-spec : {M : Type 1} → statement M
 take-all-spec =
@@ -41,7 +47,9 @@ take-all-spec =
     loop-holds
     shared-slice-read-take
     take-requires
+    failed-requires
+    returns
     add-i
     loop-less
     loop-again
-    returns)
+    returns-2)

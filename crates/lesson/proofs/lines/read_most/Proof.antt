@@ -1,7 +1,7 @@
--- `classroom::read_most` is safe and ends: the measure is the turns that are left.
+-- `lesson::lines::read_most` is safe and ends: the measure is the turns that are left.
 use borrow.Author.Needs.{needs}
-use Rattle.classroom.proofs.read_most.Statement.{statement}
-use Rattle.classroom.proofs.read_most.Tie as tie
+use Rattle.lesson.proofs.lines.read_most.Statement.{statement}
+use Rattle.lesson.proofs.lines.read_most.Tie as tie
 
 abbrev Inv-loop : tie.InvT-loop
 Inv-loop table line₀ work₀ room₀ length₀ turns₀ line work room length turns = Unit {0}
