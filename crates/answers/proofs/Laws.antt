@@ -9,8 +9,8 @@ use Rattle.page.specs.Page.{Puts}
 use Rattle.reader.specs.declared.Reading.{Reading}
 use Rattle.answers.specs.Printed.{names, nameOf, refusalText, readText, answerText}
 
-pub named : {a b name : List ℕ} {u v code : ℕ} (k : ℕ) → code ≡ k → nameOf k ≡ name → Puts a u name b v → Puts a u (nameOf code) b v
-named k e n h = rw (e, n) h
+pub named : {a b name : List ℕ} {u v code : ℕ} (k : ℕ) → code ≡ k → Puts a u name b v → nameOf k ≡ name → Puts a u (nameOf code) b v
+named k e h n = rw (e, n) h
 
 -- a number that is at least k, and not k, is more
 pub past : (n k : ℕ) → k ≤ n → (n ≡ k → ⊥) → suc k ≤ n

@@ -1,2 +1,3 @@
 pub mod Laws
+pub mod Lent
 pub mod Worked

@@ -3,7 +3,7 @@ use mathlib.Core.Path.{_≡_}
 use mathlib.Core.Bool.{true, cond}
 use mathlib.Core.List.{List, [], _∷_, _++_}
 use Prim.Native.Nat.{ℕ}
-use lib.ListN.{length, getD}
+use lib.ListN.{getD, replicate}
 use lib.Dec.{ltb}
 use Rattle.page.specs.Page.{Puts}
 use Rattle.page.specs.Decimal.{decimal}
@@ -68,10 +68,12 @@ answerText r = cond (ltb 0 (r .code)) (refusalText (r .code) (r .place) (r .visi
 abbrev pub outcomeOf : (table line work room : List ℕ) → Outcome
 outcomeOf table line work room = readingOf true table line allowance work room
 
--- A line was read with all that the program lends, and its answer is put on the page.
+-- The text that answers a line. What is lent has zeros here: what it holds makes no difference, only how much is lent.
+unfoldable pub lineText : (table line : List ℕ) → List ℕ
+lineText table line = answerText (outcomeOf table line (replicate workingNumbers 0) (replicate roomBytes 0) .reading)
+
+-- A line was read, and its text is put on the page; working numbers and room are as a reading leaves them.
 pub record Answers (table line : List ℕ) (work room page : List ℕ) (used : ℕ) (workAfter roomAfter pageAfter : List ℕ) (usedAfter : ℕ) : Type 0 where
-  pub numbersLent : length work ≡ workingNumbers
-  pub bytesLent : length room ≡ roomBytes
+  pub printed : Puts page used (lineText table line) pageAfter usedAfter
   pub working : workAfter ≡ outcomeOf table line work room .work
   pub stored : roomAfter ≡ outcomeOf table line work room .room
-  pub printed : Puts page used (answerText (outcomeOf table line work room .reading)) pageAfter usedAfter

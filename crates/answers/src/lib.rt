@@ -1,6 +1,7 @@
 // An answer as text on a page: READ matched visits records, or the code's name, place and visits.
 use page::Page;
 use reader::Reading;
+ghost use Prim.Native.Nat.{_≤_};
 ghost use Rattle.page.specs.Page.{Puts};
 ghost use Rattle.answers.specs.Printed.{nameOf, nextNumber, refusalText, answerText, Answers};
 
@@ -17,6 +18,25 @@ pub type Room = [u8; ROOM];
 
 const LF: u8 = 10;
 
+// The name of a code from LINE on, which a check of the table does not give.
+fn put_later_name(page: &mut Page, used: usize, code: u64) -> usize
+    requires { ⌜ 8 ≤ code ⌝ }
+    ensures { λ r. ⌜ Puts (now (page .entry)) used (nameOf code) (now (page .exit)) r ⌝ }
+{
+    match code {
+        8 => page::put_all(page, used, b"LINE"),
+        9 => page::put_all(page, used, b"ALLOW"),
+        10 => page::put_all(page, used, b"WORK"),
+        11 => page::put_all(page, used, b"EFFORT"),
+        12 => page::put_all(page, used, b"DEEP"),
+        13 => page::put_all(page, used, b"FAIL"),
+        14 => page::put_all(page, used, b"REST"),
+        15 => page::put_all(page, used, b"RECORDS"),
+        16 => page::put_all(page, used, b"ROOM"),
+        _ => used,
+    }
+}
+
 fn put_name(page: &mut Page, used: usize, code: u64) -> usize
     ensures { λ r. ⌜ Puts (now (page .entry)) used (nameOf code) (now (page .exit)) r ⌝ }
 {
@@ -29,16 +49,7 @@ fn put_name(page: &mut Page, used: usize, code: u64) -> usize
         5 => page::put_all(page, used, b"ROOT"),
         6 => page::put_all(page, used, b"KIND"),
         7 => page::put_all(page, used, b"FIELD"),
-        8 => page::put_all(page, used, b"LINE"),
-        9 => page::put_all(page, used, b"ALLOW"),
-        10 => page::put_all(page, used, b"WORK"),
-        11 => page::put_all(page, used, b"EFFORT"),
-        12 => page::put_all(page, used, b"DEEP"),
-        13 => page::put_all(page, used, b"FAIL"),
-        14 => page::put_all(page, used, b"REST"),
-        15 => page::put_all(page, used, b"RECORDS"),
-        16 => page::put_all(page, used, b"ROOM"),
-        _ => used,
+        _ => put_later_name(page, used, code),
     }
 }
 
