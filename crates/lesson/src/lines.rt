@@ -3,6 +3,10 @@ use answers::Numbers;
 use answers::Room;
 use libc::STDIN_FILENO;
 use page::Page;
+ghost use mathlib.Core.List.{[], _∷_};
+ghost use Prim.Native.Nat.{_≤_};
+ghost use lib.ListN.{length as count};
+ghost use Rattle.lesson.specs.Lines.{kept, Lengthened, Taken, TakenUnlessFailed};
 ghost use Rattle.lesson.specs.Status.{done, Ends};
 
 const LF: u8 = 10;
@@ -11,6 +15,18 @@ const LF: u8 = 10;
 const LINE: usize = 256;
 
 type Line = [u8; LINE];
+
+// A byte that belongs to the line. Of a line that is longer than its place, no more is kept.
+fn lengthen(line: &mut [u8], length: usize, byte: u8) -> usize
+    requires { ⌜ length ≤ count (now line) ⌝ }
+    ensures { λ r. ⌜ Lengthened (now (line .entry)) length byte (now (line .exit)) r ⌝ }
+{
+    if length < line.len() {
+        line[length] = byte;
+        return length + 1;
+    }
+    length
+}
 
 // How long the line is so far, and how much of the page is used.
 struct Progress {
@@ -27,21 +43,18 @@ fn take(
     room: &mut Room,
     page: &mut Page,
     progress: Progress,
-) -> Progress {
+) -> Progress
+    requires { ⌜ progress .length ≤ kept ⌝ }
+    ensures { λ r. ⌜ Taken (now (table .entry)) (now (line .entry)) (progress .length) (byte ∷ []) (now (page .entry)) (progress .used) (now (line .exit)) (r .length) (now (page .exit)) (r .used) ⌝ }
+{
     let length = progress.length;
     let used = progress.used;
     if byte == LF {
         let used = answers::answer_line(table, page::front(line, length), work, room, page, used);
         return Progress { length: 0, used };
     }
-    if length < LINE {
-        line[length] = byte;
-        return Progress {
-            length: length + 1,
-            used,
-        };
-    }
-    progress
+    let length = lengthen(line, length, byte);
+    Progress { length, used }
 }
 
 // The bytes that one read gave; a write that failed ends the taking.
@@ -53,7 +66,10 @@ fn take_all(
     room: &mut Room,
     page: &mut Page,
     length: usize,
-) -> Progress {
+) -> Progress
+    requires { ⌜ length ≤ kept ⌝ }
+    ensures { λ r. ⌜ TakenUnlessFailed (now (table .entry)) (now (line .entry)) length (now (bytes .entry)) (now (page .entry)) 0 (now (line .exit)) (r .length) (now (page .exit)) (r .used) ⌝ }
+{
     let mut progress = Progress { length, used: 0 };
     let mut i = 0;
     while i < bytes.len() {
@@ -87,7 +103,10 @@ fn read_some(
     work: &mut Numbers,
     room: &mut Room,
     length: usize,
-) -> Turn {
+) -> Turn
+    requires { ⌜ length ≤ kept ⌝ }
+    ensures { λ r. ⌜ r .length ≤ kept ⌝ }
+{
     let mut input = io::buffer();
     let got = libc::read(STDIN_FILENO, &mut input);
     if got < 0 {

@@ -1,10 +1,12 @@
 -- `lesson::lines::read_most` is safe and ends: the measure is the turns that are left.
 use borrow.Author.Needs.{needs}
+use Prim.Native.Nat.{_≤_}
+use Rattle.lesson.specs.Lines.{kept}
 use Rattle.lesson.proofs.lines.read_most.Statement.{statement}
 use Rattle.lesson.proofs.lines.read_most.Tie as tie
 
 abbrev Inv-loop : tie.InvT-loop
-Inv-loop table line₀ work₀ room₀ length₀ turns₀ line work room length turns = Unit {0}
+Inv-loop table line₀ work₀ room₀ length₀ turns₀ line work room length turns = length ≤ kept
 
 abbrev μ-loop : tie.MeasureT-loop
 μ-loop table line₀ work₀ room₀ length₀ turns₀ line work room length turns = turns
