@@ -4,42 +4,35 @@ use mathlib.Core.Bool.{false, cond}
 use mathlib.Core.List.{List, [], _∷_, _++_}
 use Prim.Native.Nat.{ℕ, _≤_}
 use lib.ListN.{length, take}
-use lib.Dec.{ltb, eqb}
+use lib.Dec.{eqb}
 use Rattle.page.specs.Page.{Puts, hasFailed}
 use Rattle.answers.specs.Printed.{lineText}
 
 abbrev pub LF : ℕ
 LF = 10
 
--- The longest line that can be read has 255 bytes. Of a longer one, so many bytes are kept, by which it is refused.
-abbrev pub kept : ℕ
-kept = 256
-
--- A line that is begun, and a byte more, where so many bytes are kept.
-abbrev pub longerWithin : ℕ → List ℕ → ℕ → List ℕ
-longerWithin most begun byte = cond (ltb (length begun) most) (begun ++ (byte ∷ [])) begun
-
-abbrev pub longer : List ℕ → ℕ → List ℕ
-longer begun byte = longerWithin kept begun byte
-
 unfoldable pub textOf : (table begun bytes : List ℕ) → List ℕ
 textOf table begun [] = []
-textOf table begun (byte ∷ bytes) = cond (eqb byte LF) (lineText table begun ++ textOf table [] bytes) (textOf table (longer begun byte) bytes)
+textOf table begun (byte ∷ bytes) = cond (eqb byte LF) (lineText table begun ++ textOf table [] bytes) (textOf table (begun ++ (byte ∷ [])) bytes)
 
 unfoldable pub begunBy : (begun bytes : List ℕ) → List ℕ
 begunBy begun [] = begun
-begunBy begun (byte ∷ bytes) = cond (eqb byte LF) (begunBy [] bytes) (begunBy (longer begun byte) bytes)
+begunBy begun (byte ∷ bytes) = cond (eqb byte LF) (begunBy [] bytes) (begunBy (begun ++ (byte ∷ [])) bytes)
 
--- The line on its place has a byte more.
+-- The longest line that can be read has 255 bytes. Of a longer one, so many are kept: it is refused, whatever follows.
+abbrev pub kept : ℕ
+kept = 256
+
+-- The line on its place has a byte more, if there is room.
 pub record Lengthened (line : List ℕ) (count byte : ℕ) (after : List ℕ) (countAfter : ℕ) : Type 0 where
   pub place : length after ≡ length line
   pub within : countAfter ≤ length line
-  pub begun : take countAfter after ≡ longerWithin (length line) (take count line) byte
+  pub begun : take countAfter after ≡ take (length line) (take count line ++ (byte ∷ []))
 
 -- Bytes of the input were taken: what they print is put on the page, and the line that they leave begun is kept.
 pub record Taken (table line : List ℕ) (count : ℕ) (bytes page : List ℕ) (used : ℕ) (lineAfter : List ℕ) (countAfter : ℕ) (pageAfter : List ℕ) (usedAfter : ℕ) : Type 0 where
   pub within : countAfter ≤ kept
-  pub begun : take countAfter lineAfter ≡ begunBy (take count line) bytes
+  pub begun : take countAfter lineAfter ≡ take kept (begunBy (take count line) bytes)
   pub printed : Puts page used (textOf table (take count line) bytes) pageAfter usedAfter
 
 -- All were taken, unless a write has failed.
