@@ -14,7 +14,7 @@ use Rattle.page.specs.Page.{Puts, hasFailed}
 use Rattle.page.proofs.Laws.{puts-both, puts-none}
 use Rattle.reader.specs.Answer.{Outcome, longestLine, readingOf}
 use Rattle.answers.specs.Printed.{workingNumbers, roomBytes, answerText, outcomeOf, lineText}
-use Rattle.lesson.specs.Lines.{LF, kept, Lengthened, textOf, begunBy, Taken, TakenUnlessFailed}
+use Rattle.lesson.specs.Lines.{LF, kept, Lengthened, textOf, begunBy, lastText, Taken, TakenUnlessFailed}
 
 -- what is cut off twice is cut off once
 cut-twice : (k : ℕ) (xs ys : List ℕ) → take k (take k xs ++ ys) ≡ take k (xs ++ ys)
@@ -159,3 +159,17 @@ module _ {table l m a b : List ℕ} {i j u v : ℕ} {xs : List ℕ} where
 
   pub finished : Taken table l i xs a u m j b v → TakenUnlessFailed table l i xs a u m j b v
   finished t = record { keeps = t .within; taken = λ _. t }
+
+module _ (table begun whole page : List ℕ) (front : whole ≡ begun) where
+  pub no-last : length whole ≡ 0 → Puts page 0 (lastText table begun) page 0
+  unfolding lastText
+  no-last h =
+      let none : length begun ≡ 0 = rw front at h in
+      rw (eq-eqb (length begun) 0 none) (puts-none page 0)
+
+  pub a-last : (after : List ℕ) (used : ℕ) → (length whole ≡ 0 → ⊥) → Puts page 0 (lineText table whole) after used → Puts page 0 (lastText table begun) after used
+  unfolding lastText
+  a-last after used h p =
+      let some : length begun ≡ 0 → ⊥ = rw front at h in
+      let q : Puts page 0 (lineText table begun) after used = rw front at p in
+      rw (ne-eqb (length begun) 0 some) q

@@ -19,6 +19,14 @@ unfoldable pub begunBy : (begun bytes : List ℕ) → List ℕ
 begunBy begun [] = begun
 begunBy begun (byte ∷ bytes) = cond (eqb byte LF) (begunBy [] bytes) (begunBy (begun ++ (byte ∷ [])) bytes)
 
+-- 01: "a last line without LF counts if it has a byte".
+unfoldable pub lastText : (table begun : List ℕ) → List ℕ
+lastText table begun = cond (eqb (length begun) 0) [] (lineText table begun)
+
+-- All that is printed for an input.
+unfoldable pub allText : (table input : List ℕ) → List ℕ
+allText table input = textOf table [] input ++ lastText table (begunBy [] input)
+
 -- The longest line that can be read has 255 bytes. Of a longer one, so many are kept: it is refused, whatever follows.
 abbrev pub kept : ℕ
 kept = 256

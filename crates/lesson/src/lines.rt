@@ -5,8 +5,9 @@ use libc::STDIN_FILENO;
 use page::Page;
 ghost use mathlib.Core.List.{[], _∷_};
 ghost use Prim.Native.Nat.{_≤_};
-ghost use lib.ListN.{length as count};
-ghost use Rattle.lesson.specs.Lines.{kept, Lengthened, Taken, TakenUnlessFailed};
+ghost use lib.ListN.{length as count, take};
+ghost use Rattle.page.specs.Page.{Puts};
+ghost use Rattle.lesson.specs.Lines.{kept, lastText, Lengthened, Taken, TakenUnlessFailed};
 ghost use Rattle.lesson.specs.Status.{done, Ends};
 
 const LF: u8 = 10;
@@ -35,7 +36,7 @@ struct Progress {
 }
 
 // One byte of the input: LF ends the line and is dropped, any other belongs to it.
-fn take(
+fn take_byte(
     table: &[u8],
     byte: u8,
     line: &mut Line,
@@ -73,7 +74,7 @@ fn take_all(
     let mut progress = Progress { length, used: 0 };
     let mut i = 0;
     while i < bytes.len() {
-        progress = take(table, bytes[i], line, work, room, page, progress);
+        progress = take_byte(table, bytes[i], line, work, room, page, progress);
         if page::failed(page) {
             return progress;
         }
@@ -157,14 +158,28 @@ fn read_most(table: &[u8], line: &mut Line, work: &mut Numbers, room: &mut Room)
 }
 
 // A last line without LF counts if it has a byte.
+fn put_last(
+    table: &[u8],
+    line: &Line,
+    work: &mut Numbers,
+    room: &mut Room,
+    page: &mut Page,
+    length: usize,
+) -> usize
+    ensures { λ r. ⌜ Puts (now (page .entry)) 0 (lastText (now (table .entry)) (take length (now (line .entry)))) (now (page .exit)) r ⌝ }
+{
+    let last = page::front(line, length);
+    if last.len() == 0 {
+        return 0;
+    }
+    answers::answer_line(table, last, work, room, page, 0)
+}
+
 fn read_last(table: &[u8], line: &Line, work: &mut Numbers, room: &mut Room, length: usize) -> u32
     ensures { λ r. ⌜ Ends done r ⌝ }
 {
-    if length == 0 {
-        return crate::DONE;
-    }
     let mut page = page::blank();
-    let used = answers::answer_line(table, page::front(line, length), work, room, &mut page, 0);
+    let used = put_last(table, line, work, room, &mut page, length);
     crate::print(&mut page, used, crate::DONE)
 }
 

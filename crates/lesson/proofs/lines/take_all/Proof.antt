@@ -18,17 +18,17 @@ abbrev μ-loop : tie.MeasureT-loop
 loop-holds : tie.Need-loop-holds Inv-loop μ-loop
 loop-holds c = (omega arith, taken-none _ _ _ _ _ (c .before .before .pre))
 
-shared-slice-read-take : tie.Need-shared-slice-read-take Inv-loop μ-loop
-shared-slice-read-take c = omega arith
+shared-slice-read-take-byte : tie.Need-shared-slice-read-take-byte Inv-loop μ-loop
+shared-slice-read-take-byte c = omega arith
 
-take-requires : tie.Need-take-requires Inv-loop μ-loop
-take-requires c κs = c .before .before .before .before .before .before .loop .inv .1 .within
+take-byte-requires : tie.Need-take-byte-requires Inv-loop μ-loop
+take-byte-requires c κs = c .before .before .before .before .before .before .loop .inv .1 .within
 
 failed-requires : tie.Need-failed-requires Inv-loop μ-loop
 failed-requires c κs = search needs
 
 returns : tie.Need-returns Inv-loop μ-loop
-returns c = stopped (c .before .failed .result) (c .before .failed .ensures) (c .if1 .taken) (c .before .before .before .take .ensures .within)
+returns c = stopped (c .before .failed .result) (c .before .failed .ensures) (c .if1 .taken) (c .before .before .before .take-byte .ensures .within)
 
 add-i : tie.Need-add-i Inv-loop μ-loop
 add-i c = omega arith
@@ -40,7 +40,7 @@ loop-again : tie.Need-loop-again Inv-loop μ-loop
 loop-again c =
     let t = c .before .before .before in
     let l = t .before .before .before .before .before .before in
-    (omega arith, taken-one _ _ (l .loop-test .taken) (l .before .loop .inv .1) (t .take .ensures))
+    (omega arith, taken-one _ _ (l .loop-test .taken) (l .before .loop .inv .1) (t .take-byte .ensures))
 
 returns-2 : tie.Need-returns-2 Inv-loop μ-loop
 returns-2 c = finished (taken-all _ _ (c .before .loop .inv .0) (c .loop-test .left) (c .before .loop .inv .1))
@@ -52,8 +52,8 @@ take-all-spec =
     Inv-loop
     μ-loop
     loop-holds
-    shared-slice-read-take
-    take-requires
+    shared-slice-read-take-byte
+    take-byte-requires
     failed-requires
     returns
     add-i

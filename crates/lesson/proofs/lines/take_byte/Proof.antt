@@ -1,8 +1,8 @@
--- `lesson::lines::take` meets its contract.
+-- `lesson::lines::take_byte` meets its contract.
 use Rattle.lesson.proofs.Taking.{line-ends, line-grows}
 use borrow.Author.Needs.{needs}
-use Rattle.lesson.proofs.lines.take.Statement.{statement}
-use Rattle.lesson.proofs.lines.take.Tie as tie
+use Rattle.lesson.proofs.lines.take_byte.Statement.{statement}
+use Rattle.lesson.proofs.lines.take_byte.Tie as tie
 
 front-requires : tie.Need-front-requires
 front-requires c κs = search needs
@@ -26,6 +26,6 @@ returns-2 c =
     let s = test .before .before .args in
     line-grows (s .table .now) (s .line .now) (s .progress .length) (s .byte) (s .page .now) (s .progress .used) _ _ (test .if1 .left) (search needs) (c .lengthen .ensures)
 
-pub take-spec : {M : Type 1} → statement M
-take-spec =
+pub take-byte-spec : {M : Type 1} → statement M
+take-byte-spec =
     tie.close (tie.spec front-requires answer-line-requires returns lengthen-requires returns-2)
