@@ -7,7 +7,7 @@ use Prim.Native.Nat.{ℕ, _≤_, _<_}
 use lib.Dec.{ltb}
 use borrow.Author.Tests.{lt-ltb, le-ltb}
 use native.Mathlib.Omega.{arith}
-use Rattle.page.specs.Page.{hasFailed}
+use Rattle.page.specs.Page.{hasFailed, Puts}
 use Rattle.sheet.specs.Check.{checkOf}
 use Rattle.lesson.specs.Status.{done, refused, failed, statusOf, Ends}
 
@@ -39,3 +39,6 @@ by-status table r e = at-most (statusOf table) r (one-of (ltb 0 (checkOf table .
     one-of : (b : Bool) → cond b refused done ≤ failed
     one-of true = omega arith
     one-of false = omega arith
+
+pub same-text : {a b text : List ℕ} {u v : ℕ} (named : List ℕ) → Puts a u text b v → named ≡ text → Puts a u named b v
+same-text named p e = rw e p

@@ -3,10 +3,12 @@ mod lines;
 mod load;
 
 use page::Page;
+use sheet::Verdict;
 ghost use mathlib.Core.Path.{_≡_};
 ghost use mathlib.Core.Bool.{cond};
 ghost use Prim.Native.Nat.{_≤_};
-ghost use Rattle.page.specs.Page.{hasFailed};
+ghost use Rattle.page.specs.Page.{hasFailed, Puts};
+ghost use Rattle.lesson.specs.Texts.{grammarText, verdictText};
 ghost use Rattle.lesson.specs.Status.{refused, failed, Ends, statusOf};
 
 // The exit status: all was read and printed; there was no sheet to read by; reading or writing failed.
@@ -44,20 +46,32 @@ pub(crate) fn print(page: &mut Page, used: usize, status: u32) -> u32
     status
 }
 
-// There is no table: this is printed instead of answers.
+// Where there is no table, this is printed instead of answers.
+fn put_grammar(page: &mut Page) -> usize
+    ensures { λ r. ⌜ Puts (now (page .entry)) 0 grammarText (now (page .exit)) r ⌝ }
+{
+    page::put_all(page, 0, b"GRAMMAR\n")
+}
+
 fn print_grammar(status: u32) -> u32
     ensures { λ r. ⌜ Ends status r ⌝ }
 {
     let mut page = page::blank();
-    let used = page::put_all(&mut page, 0, b"GRAMMAR\n");
+    let used = put_grammar(&mut page);
     print(&mut page, used, status)
 }
 
-fn print_refusal(code: u64, place: u64) -> u32
+fn put_verdict(page: &mut Page, verdict: Verdict) -> usize
+    ensures { λ r. ⌜ Puts (now (page .entry)) 0 (verdictText verdict) (now (page .exit)) r ⌝ }
+{
+    answers::put_refusal(page, 0, verdict.code as u64, verdict.place as u64, 0)
+}
+
+fn print_verdict(verdict: Verdict) -> u32
     ensures { λ r. ⌜ Ends refused r ⌝ }
 {
     let mut page = page::blank();
-    let used = answers::put_refusal(&mut page, 0, code, place, 0);
+    let used = put_verdict(&mut page, verdict);
     print(&mut page, used, REFUSED)
 }
 
@@ -67,7 +81,7 @@ fn read_by(table: &[u8]) -> u32
 {
     let verdict = sheet::check(table);
     if verdict.code > 0 {
-        return print_refusal(verdict.code as u64, verdict.place as u64);
+        return print_verdict(verdict);
     }
     lines::read_lines(table)
 }

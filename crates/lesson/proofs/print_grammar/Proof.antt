@@ -8,11 +8,8 @@ use Rattle.lesson.proofs.print_grammar.Tie as tie
 blank-requires : tie.Need-blank-requires
 blank-requires c κs = search needs
 
-slice-aggregate-put-all : tie.Need-slice-aggregate-put-all
-slice-aggregate-put-all c = search needs
-
-put-all-requires : tie.Need-put-all-requires
-put-all-requires c κs = search needs
+put-grammar-requires : tie.Need-put-grammar-requires
+put-grammar-requires c κs = search needs
 
 print-requires : tie.Need-print-requires
 print-requires c κs = search needs
@@ -22,5 +19,4 @@ returns c = printed (hasFailed (c .print .last .0)) _ _ (c .print .ensures)
 
 pub print-grammar-spec : {M : Type 1} → statement M
 print-grammar-spec =
-    tie.close
-    (tie.spec blank-requires slice-aggregate-put-all put-all-requires print-requires returns)
+    tie.close (tie.spec blank-requires put-grammar-requires print-requires returns)

@@ -7,11 +7,11 @@ use Rattle.lesson.proofs.read_by.Tie as tie
 check-requires : tie.Need-check-requires
 check-requires c κs = search needs
 
-print-refusal-requires : tie.Need-print-refusal-requires
-print-refusal-requires c κs = search needs
+print-verdict-requires : tie.Need-print-verdict-requires
+print-verdict-requires c κs = search needs
 
 returns : tie.Need-returns
-returns c = when-refused (c .before .before .before .before .before .args .table .now) _ (rw (← c .before .before .before .check .ensures) (c .before .if1 .taken)) (c .print-refusal .ensures)
+returns c = when-refused (c .before .before .before .before .before .args .table .now) _ (rw (← c .before .before .before .check .ensures) (c .before .if1 .taken)) (c .print-verdict .ensures)
 
 read-lines-requires : tie.Need-read-lines-requires
 read-lines-requires c κs = search needs
@@ -22,4 +22,4 @@ returns-2 c = when-accepted (c .before .before .before .before .before .args .ta
 pub read-by-spec : {M : Type 1} → statement M
 read-by-spec =
     tie.close
-    (tie.spec check-requires print-refusal-requires returns read-lines-requires returns-2)
+    (tie.spec check-requires print-verdict-requires returns read-lines-requires returns-2)
