@@ -2,7 +2,7 @@
 use crate::field;
 use crate::fill;
 use crate::readers;
-use text::Page;
+use page::Page;
 
 // The most that a command can set or lend.
 pub(crate) const TABLE: usize = 3_000;
@@ -47,12 +47,12 @@ fn put_row(page: &mut Page, used: usize, row: &[u64]) -> usize {
     let mut i = 0;
     while i < row.len() {
         if i > 0 {
-            at = text::put(page, at, b' ');
+            at = page::put(page, at, b' ');
         }
-        at = text::put_number(page, at, row[i]);
+        at = page::put_number(page, at, row[i]);
         i += 1;
     }
-    text::put(page, at, b'\n')
+    page::put(page, at, b'\n')
 }
 
 fn answered(page: &mut Page, mut desk: Desk, row: &[u64]) -> Desk {
@@ -158,7 +158,7 @@ fn ask_formed(stored: &mut [u8], page: &mut Page, desk: Desk) -> Desk {
         return stopped(desk, BAD);
     }
     let row = readers::well_formed(
-        text::front(stored, bytes.count),
+        page::front(stored, bytes.count),
         rules.value,
         line_length.value,
     );
@@ -178,12 +178,12 @@ fn command(
     match letter {
         b'T' => set_table(table, desk),
         b'L' => set_line(line, desk),
-        b'K' => ask_check(text::front(table, desk.table), page, desk),
-        b'M' => ask_report(text::front(table, desk.table), page, desk),
+        b'K' => ask_check(page::front(table, desk.table), page, desk),
+        b'M' => ask_report(page::front(table, desk.table), page, desk),
         b'P' => ask_reading(
             false,
-            text::front(table, desk.table),
-            text::front(line, desk.line),
+            page::front(table, desk.table),
+            page::front(line, desk.line),
             work,
             room,
             page,
@@ -191,8 +191,8 @@ fn command(
         ),
         b'W' => ask_reading(
             true,
-            text::front(table, desk.table),
-            text::front(line, desk.line),
+            page::front(table, desk.table),
+            page::front(line, desk.line),
             work,
             room,
             page,

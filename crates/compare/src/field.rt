@@ -53,7 +53,7 @@ pub(crate) fn read_number(width: usize) -> Number {
     let mut bytes = [0u8; 8];
     let is_there = read_bytes(width, &mut bytes);
     Number {
-        value: value(text::front(&bytes, width)),
+        value: value(page::front(&bytes, width)),
         is_there,
     }
 }

@@ -9,7 +9,7 @@ use desk::Line;
 use desk::Numbers;
 use desk::Room;
 use desk::Table;
-use text::Page;
+use page::Page;
 
 // A proved loop has to end, and nothing says that the stream does: it counts its turns down from a number that no run
 // uses up.
@@ -44,7 +44,7 @@ fn main() {
     let mut stored = [0u8; desk::ROOM];
     let mut work = [0u32; desk::NUMBERS];
     let mut room = [0u8; desk::ROOM];
-    let mut page = [0u8; text::SIZE];
+    let mut page = page::blank();
     let desk = answer_all(
         &mut table,
         &mut line,
@@ -54,9 +54,9 @@ fn main() {
         &mut page,
     );
     if desk.state == desk::BAD {
-        let used = text::put_all(&mut page, desk.used, b"BAD\n");
-        text::send(&page, used);
+        let used = page::put_all(&mut page, desk.used, b"BAD\n");
+        page::send(&mut page, used);
         return;
     }
-    text::send(&page, desk.used);
+    page::send(&mut page, desk.used);
 }

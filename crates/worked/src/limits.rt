@@ -8,7 +8,7 @@ pub(crate) fn line_length() {
     let mut table = [0u8; build::SPACE];
     let s = sheets::letters(&mut table);
     let line = [b'a'; 256];
-    let most = text::front(&line, 255);
+    let most = page::front(&line, 255);
     say::whole(b"S <- 'a'* on 255 bytes", &table, s, most, 2_500);
     say::whole(b"S <- 'a'* on 256 bytes", &table, s, &line, 2_500);
 }
@@ -56,7 +56,7 @@ fn nots_on(name: &[u8], count: usize, allowance: u64) {
     let mut table = [0u8; build::SPACE];
     let length = sheets::nots(&mut table);
     let line = [b'a'; 11];
-    let line = text::front(&line, count);
+    let line = page::front(&line, count);
     say::prefix(name, &table, length, line, allowance);
 }
 

@@ -1,7 +1,7 @@
 // One line of text for each case: its name, then the numbers of its answer, and a stored reading's bytes.
 use crate::build::Table;
+use page::Page;
 use reader::Reading;
-use text::Page;
 
 const LF: u8 = 10;
 
@@ -85,8 +85,8 @@ fn put_answer(page: &mut Page, used: usize, answer: Reading) -> usize {
 // ---- Text.
 
 fn put_next(page: &mut Page, used: usize, number: u64) -> usize {
-    let at = text::put(page, used, b' ');
-    text::put_number(page, at, number)
+    let at = page::put(page, used, b' ');
+    page::put_number(page, at, number)
 }
 
 fn wide(x: u8) -> u64 {
@@ -96,14 +96,14 @@ fn wide(x: u8) -> u64 {
 fn put_hex(page: &mut Page, used: usize, byte: u8) -> usize {
     let mut digits = [0u8; 16];
     let count = io::hex(wide(byte), 2, &mut digits);
-    text::put_all(page, used, &digits[..count])
+    page::put_all(page, used, &digits[..count])
 }
 
 fn put_bytes(page: &mut Page, used: usize, bytes: &[u8]) -> usize {
     if bytes.len() == 0 {
         return used;
     }
-    let mut at = text::put(page, used, b' ');
+    let mut at = page::put(page, used, b' ');
     let mut i = 0;
     while i < bytes.len() {
         at = put_hex(page, at, bytes[i]);
@@ -114,33 +114,33 @@ fn put_bytes(page: &mut Page, used: usize, bytes: &[u8]) -> usize {
 
 // A name and the numbers that belong to it.
 fn begin(page: &mut Page, name: &[u8], numbers: &[u64]) -> usize {
-    let mut at = text::put_all(page, 0, name);
+    let mut at = page::put_all(page, 0, name);
     let mut i = 0;
     while i < numbers.len() {
         at = put_next(page, at, numbers[i]);
         i += 1;
     }
-    text::put(page, at, b':')
+    page::put(page, at, b':')
 }
 
 fn finish(page: &mut Page, used: usize) {
-    let at = text::put(page, used, LF);
-    text::send(page, at);
+    let at = page::put(page, used, LF);
+    page::send(page, at);
 }
 
 // ---- Cases.
 
 pub(crate) fn check(name: &[u8], numbers: &[u64], table: &Table, length: usize) {
-    let mut page = [0u8; text::SIZE];
+    let mut page = page::blank();
     let mut at = begin(&mut page, name, numbers);
-    at = put_check(&mut page, at, text::front(table, length));
+    at = put_check(&mut page, at, page::front(table, length));
     finish(&mut page, at);
 }
 
 pub(crate) fn report(name: &[u8], table: &Table, length: usize) {
-    let mut page = [0u8; text::SIZE];
+    let mut page = page::blank();
     let mut at = begin(&mut page, name, &[]);
-    at = put_report(&mut page, at, text::front(table, length));
+    at = put_report(&mut page, at, page::front(table, length));
     finish(&mut page, at);
 }
 
@@ -171,7 +171,7 @@ fn put_reading(
         &mut room[..k],
     );
     let at = put_answer(page, used, answer);
-    put_bytes(page, at, text::front(room, stored_length(answer)))
+    put_bytes(page, at, page::front(room, stored_length(answer)))
 }
 
 pub(crate) fn reading(
@@ -184,12 +184,12 @@ pub(crate) fn reading(
 ) {
     let mut work = [7u32; NUMBERS];
     let mut room = [7u8; ROOM];
-    let mut page = [0u8; text::SIZE];
+    let mut page = page::blank();
     let mut at = begin(&mut page, name, numbers);
     at = put_reading(
         &mut page,
         at,
-        text::front(table, length),
+        page::front(table, length),
         line,
         asked,
         &mut work,
@@ -217,12 +217,12 @@ pub(crate) fn large(name: &[u8], table: &Table, length: usize, line: &[u8], allo
     };
     let mut work = [7u32; LARGE];
     let mut room = [7u8; ROOM];
-    let mut page = [0u8; text::SIZE];
+    let mut page = page::blank();
     let mut at = begin(&mut page, name, &[]);
     at = put_reading(
         &mut page,
         at,
-        text::front(table, length),
+        page::front(table, length),
         line,
         asked,
         &mut work,
