@@ -1,10 +1,13 @@
 -- A run of numbers written into a list: one after another, at the front, and what stands where afterwards.
 use mathlib.Core.Path.{_≡_, refl, sym, _∙_}
+use mathlib.Core.Bool.{Bool, true, false}
 use mathlib.Core.List.{List, [], _∷_, _++_}
 use native.Mathlib.Omega.{arith}
 use native.Mathlib.Nat.{add-zero, add-suc, suc-add, zero-add}
 use native.Mathlib.Numerals.{add-one}
 use Prim.Native.Nat.{ℕ, zero, suc, _+_, _<_, _≤_}
+use borrow.Author.Tests.{ltb-true, ltb-false}
+use lib.Dec.{ltb}
 use lib.ListN.{length, getD, set, drop, length-set}
 use lib.Seq.{sets, sets-eq, getD-set-same, getD-set-other}
 
@@ -25,6 +28,14 @@ sets-below (x ∷ xs) room at i h = sets-below xs (set room at x) (suc at) i (om
 pub sets-above : (xs room : List ℕ) (at i : ℕ) → at + length xs ≤ i → getD (sets room at xs) i 0 ≡ getD room i 0
 sets-above [] room at i h = refl
 sets-above (x ∷ xs) room at i h = sets-above xs (set room at x) (suc at) i (omega arith) ∙ getD-set-other room at i x 0 (omega arith)
+
+-- Nothing is written at i.
+pub sets-apart : (xs room : List ℕ) (at i : ℕ) → (at ≤ i → at + length xs ≤ i) → getD (sets room at xs) i 0 ≡ getD room i 0
+sets-apart xs room at i h = by (ltb i at) refl
+  where
+    by : (b : Bool) → ltb i at ≡ b → getD (sets room at xs) i 0 ≡ getD room i 0
+    by true e = sets-below xs room at i (ltb-true i at e)
+    by false e = sets-above xs room at i (h (ltb-false i at e))
 
 pub sets-at : (xs room : List ℕ) (at k : ℕ) → k < length xs → at + k < length room → getD (sets room at xs) (at + k) 0 ≡ getD xs k 0
 sets-at [] room at k h l = absurd (omega arith)

@@ -1,5 +1,5 @@
 -- 01, "What comes back": the five numbers of a reading, and what it leaves in the working numbers and in the room.
-use Prim.Native.Nat.{ℕ, _+_, _-_, _*_}
+use Prim.Native.Nat.{ℕ, _+_, _*_}
 use mathlib.Core.Path.{_≡_}
 use mathlib.Core.Bool.{Bool, _&&_, _||_, cond}
 use mathlib.Core.List.{List, _++_}
@@ -8,7 +8,7 @@ use lib.Dec.{ltb, eqb}
 use Rattle.meaning.specs.Grammar.{Trees, fail, ok}
 pub use Rattle.meaning.specs.Reading.{EFFORT, DEEP}
 pub use Rattle.visits.specs.Given.{longestLine, mostAllowance, workNeeded}
-use Rattle.meaning.specs.Reading.{Run, effort, deep, done, read}
+use Rattle.meaning.specs.Reading.{made, Run, effort, deep, done, read}
 use Rattle.sheet.specs.Table.{nodesOf, grammarOf}
 use Rattle.sheet.specs.Check.{checkOf}
 use Rattle.stored.specs.Stored.{recordsOf, storedLength, storedOf}
@@ -66,10 +66,10 @@ matchOutcome whole long e ts visits work room =
 
 -- How a reading ended, by 01's rows 11 to 16 and 0; visits is the number made.
 unfoldable pub runOutcome : (whole : Bool) (long allowance : ℕ) → Run → (work room : List ℕ) → Outcome
-runOutcome whole long allowance (effort p s) work room = record { reading = numbers EFFORT p 0 (allowance - s .left) 0; work = work; room = room }
-runOutcome whole long allowance (deep p s) work room = record { reading = numbers DEEP p 0 (allowance - s .left) 0; work = work; room = room }
-runOutcome whole long allowance (done fail s) work room = record { reading = numbers FAIL 0 0 (allowance - s .left) 0; work = work; room = room }
-runOutcome whole long allowance (done (ok e ts) s) work room = matchOutcome whole long e ts (allowance - s .left) work room
+runOutcome whole long allowance (effort p s) work room = record { reading = numbers EFFORT p 0 (made allowance s) 0; work = work; room = room }
+runOutcome whole long allowance (deep p s) work room = record { reading = numbers DEEP p 0 (made allowance s) 0; work = work; room = room }
+runOutcome whole long allowance (done fail s) work room = record { reading = numbers FAIL 0 0 (made allowance s) 0; work = work; room = room }
+runOutcome whole long allowance (done (ok e ts) s) work room = matchOutcome whole long e ts (made allowance s) work room
 
 -- 01: "Codes 1 to 10 return zeros else and change nothing."
 abbrev pub turnedAway : (code place : ℕ) → (work room : List ℕ) → Outcome

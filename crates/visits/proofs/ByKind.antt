@@ -1,7 +1,7 @@
 -- One node's application, kind by kind, and a use by whether answers are kept.
 use mathlib.Core.Path.{_≡_, refl, sym, ap, _∙_}
 use mathlib.Core.Logic.{_≢_}
-use mathlib.Core.Bool.{Bool, true, false, true≢false}
+use mathlib.Core.Bool.{Bool, true, false}
 use mathlib.Core.List.{List}
 use Prim.Native.Nat.{ℕ, zero, suc, _+_, _<_, _≤_}
 use native.Mathlib.Omega.{arith}
@@ -112,9 +112,6 @@ keeps-yes x n = lt-ltb 0 x (omega arith)
 
 pub keeps-no : (x : ℕ) → x ≡ 0 → ltb 0 x ≡ false
 keeps-no x e = le-ltb 0 x (omega arith)
-
-pub not-both : {b : Bool} → b ≡ true → b ≡ false → ⊥
-not-both p q = true≢false (sym p ∙ q)
 
 -- A kind that is none of 0 to 6 is above them.
 pub above-six : (k : ℕ) → k ≢ 0 → k ≢ 1 → k ≢ 2 → k ≢ 3 → k ≢ 4 → k ≢ 5 → k ≢ 6 → (n : ℕ) × (k ≡ 7 + n)

@@ -79,9 +79,6 @@ module _ (given : Given) (line : List ℕ) where
   -- A use is live.
   module _ (w : List ℕ) (spot root pos rule end list : ℕ) (ready : Starts given line w spot root pos) (room : liveIn spot + leftIn spot ≤ 512) (inside : end ≤ length line) (below : list ≤ topIn w)
       {w₁ : List ℕ} (put : w₁ ≡ usePut w (liveIn spot * 3) (keyOf rule pos) end list) where
-    abbrev entered : List ℕ
-    entered = usePut w (liveIn spot * 3) (keyOf rule pos) end list
-
     top-stays : topIn w₁ ≡ topIn w
     top-stays = rw put (use-other w (liveIn spot * 3) (keyOf rule pos) end list 2042 (omega arith) (omega arith) (omega arith))
 

@@ -5,15 +5,16 @@ use mathlib.Core.Bool.{Bool, true, false}
 use mathlib.Core.List.{List, [], _∷_}
 use mathlib.Core.Option.{Option, none, some}
 use Prim.Native.Nat.{ℕ, suc, _+_, _*_, _-_, _<_, _≤_}
-use native.Mathlib.Nat.{mul-le-mul-right}
+use native.Mathlib.Nat.{add-zero, mul-le-mul-right}
 use native.Mathlib.Omega.{arith}
-use lib.ListN.{length, getD, set, length-set}
-use lib.Seq.{getD-set-same, getD-set-other, sets, length-sets}
+use lib.ListN.{length, getD}
+use lib.Seq.{sets, length-sets}
 use lib.Dec.{eqb}
 use borrow.Author.Tests.{eqb-true, eqb-false}
 use Rattle.meaning.specs.Grammar.{Answer, fail, ok, Note, noted, look, node}
 use Rattle.meaning.specs.Reading.{State, Run, after, Visit, apply, keep, useRule, recall, visited}
 use Rattle.meaning.proofs.Notes.{look-same, look-other}
+use Rattle.meaning.proofs.Sets.{sets-apart, sets-at}
 use Rattle.cells.specs.Cells.{treesAt}
 use Rattle.cells.proofs.Frame.{arena-same}
 use Rattle.visits.specs.Given.{Given, lent, nodesIn, keepsIn, baseIn, allowanceIn, pairsIn, grammarIn, Fit}
@@ -29,15 +30,13 @@ pairPut w p a b = sets w p (a ∷ b ∷ [])
 
 module _ (w : List ℕ) (p a b : ℕ) where
   pub put-other : (i : ℕ) → i ≢ p → i ≢ p + 1 → getD (pairPut w p a b) i 0 ≡ getD w i 0
-  put-other i h k = getD-set-other (set w p a) (suc p) i b 0 (omega arith) ∙ getD-set-other w p i a 0 h
+  put-other i h k = sets-apart (a ∷ b ∷ []) w p i (λ l. omega arith)
 
   pub put-first : p < length w → getD (pairPut w p a b) p 0 ≡ a
-  put-first h = getD-set-other (set w p a) (suc p) p b 0 (omega arith) ∙ getD-set-same w p a 0 h
+  put-first h = rw (add-zero p) at (sets-at (a ∷ b ∷ []) w p 0 (omega arith) (omega arith))
 
   pub put-second : p + 1 < length w → getD (pairPut w p a b) (p + 1) 0 ≡ b
-  put-second h =
-      let e : p + 1 ≡ suc p = omega arith in
-      rw e (getD-set-same (set w p a) (suc p) b 0 (omega (arith, length-set w p a)))
+  put-second h = sets-at (a ∷ b ∷ []) w p 1 (omega arith) h
 
 -- Two numbers are the same or not.
 pub by-same : {P : Type 0} (i j : ℕ) → (i ≡ j → P) → (i ≢ j → P) → P

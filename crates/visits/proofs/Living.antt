@@ -4,14 +4,16 @@ use mathlib.Core.Logic.{_≢_, inl, inr}
 use mathlib.Core.List.{List, [], _∷_}
 use mathlib.Core.Option.{none, some}
 use mathlib.Core.Bool.{false}
-use Prim.Native.Nat.{ℕ, suc, _+_, _*_, _-_, _<_, _≤_}
+use Prim.Native.Nat.{ℕ, _+_, _*_, _-_, _<_, _≤_}
+use native.Mathlib.Nat.{add-zero}
 use native.Mathlib.Omega.{arith}
-use lib.ListN.{length, getD, set, length-set}
-use lib.Seq.{getD-set-same, getD-set-other, sets, length-sets}
+use lib.ListN.{length, getD}
+use lib.Seq.{sets, length-sets}
 use Rattle.meaning.specs.Grammar.{Answer, fail, ok, wrap, rootOf, Note, noted, look}
 use Rattle.meaning.specs.Reading.{State, Run, effort, deep, done, Visit, useLive, useRule}
 use Rattle.meaning.proofs.Notes.{look-same, look-other}
 use Rattle.meaning.proofs.Answers.{found}
+use Rattle.meaning.proofs.Sets.{sets-apart, sets-at}
 use Rattle.cells.specs.Cells.{treesAt}
 use Rattle.cells.proofs.Frame.{arena-same}
 use Rattle.visits.specs.Given.{Given, baseIn, allowanceIn, grammarIn, Fit}
@@ -71,29 +73,17 @@ usePut w p a b c = sets w p (a ∷ b ∷ c ∷ [])
 
 module _ (w : List ℕ) (p a b c : ℕ) where
   pub use-other : (i : ℕ) → i ≢ p → i ≢ p + 1 → i ≢ p + 2 → getD (usePut w p a b c) i 0 ≡ getD w i 0
-  use-other i h k m =
-      getD-set-other (set (set w p a) (suc p) b) (suc (suc p)) i c 0 (omega arith)
-      ∙ getD-set-other (set w p a) (suc p) i b 0 (omega arith)
-      ∙ getD-set-other w p i a 0 h
+  use-other i h k m = sets-apart (a ∷ b ∷ c ∷ []) w p i (λ l. omega arith)
 
   module _ (room : p + 2 < length w) where
     pub use-first : getD (usePut w p a b c) p 0 ≡ a
-    use-first =
-        getD-set-other (set (set w p a) (suc p) b) (suc (suc p)) p c 0 (omega arith)
-        ∙ getD-set-other (set w p a) (suc p) p b 0 (omega arith)
-        ∙ getD-set-same w p a 0 (omega arith)
+    use-first = rw (add-zero p) at (sets-at (a ∷ b ∷ c ∷ []) w p 0 (omega arith) (omega arith))
 
     pub use-second : getD (usePut w p a b c) (p + 1) 0 ≡ b
-    use-second =
-        let e : p + 1 ≡ suc p = omega arith in
-        rw e
-        (getD-set-other (set (set w p a) (suc p) b) (suc (suc p)) (suc p) c 0 (omega arith)
-        ∙ getD-set-same (set w p a) (suc p) b 0 (omega (arith, length-set w p a)))
+    use-second = sets-at (a ∷ b ∷ c ∷ []) w p 1 (omega arith) (omega arith)
 
     pub use-third : getD (usePut w p a b c) (p + 2) 0 ≡ c
-    use-third =
-        let e : p + 2 ≡ suc (suc p) = omega arith in
-        rw e (getD-set-same (set (set w p a) (suc p) b) (suc (suc p)) c 0 (omega (arith, length-set w p a, length-set (set w p a) (suc p) b)))
+    use-third = sets-at (a ∷ b ∷ c ∷ []) w p 2 (omega arith) (omega arith)
 
 module _ (given : Given) (line : List ℕ) (fit : Fit given line) where
   abbrev pub uses : (List Note → Visit) → ℕ → ℕ → List Note → State → Run

@@ -1,5 +1,6 @@
 -- What is asked of `visit_open`: an open visit where nothing is kept.
 use Prim.Native.Nat.{ℕ, _<_}
+use Rattle.meaning.proofs.Answers.{clash}
 use Rattle.visits.proofs.apply.Reads as apply
 use Rattle.visits.proofs.use_rule.Reads as use-rule
 use Rattle.visits.proofs.visit_open.Reads as visit-open
@@ -16,7 +17,7 @@ use mathlib.Core.Path.{refl, sym, _∙_}
 use Rattle.visits.specs.Given.{lent, rulesIn, posIn}
 use Rattle.visits.proofs.Steps.{came-at}
 use Rattle.visits.proofs.Ready.{node-known, ready-at, root-in}
-use Rattle.visits.proofs.ByKind.{apply-rule, apply-range, rule-used, not-both}
+use Rattle.visits.proofs.ByKind.{apply-rule, apply-range, rule-used}
 use Rattle.visits.proofs.Opening.{plain-opens}
 use Rattle.visits.proofs.+apply+use_free+use_live+use_rule+visit+visit_choice+visit_not+visit_open+visit_pair+visit_repetition+visit_sequence.Proof.Ranks.{apply-below, use-rule-below, visit-open-at, visit-pair-below}
 
@@ -69,7 +70,7 @@ visit-open-apply-requires t c κs =
     let at-start = c .before .before .before .before in
     let at-match = c .before .match in
     let at-kind-of = c .before .before .kind-of in
-    (omega (arith, at-start .pre .0), (at-start .pre .1 .0, (at-start .pre .1 .1 .0, ((λ e. absurd (at-match .rest .0 .0 .1 (at-kind-of .ensures .0 ∙ e))), (λ k. absurd (not-both k (at-start .pre .1 .1 .1)))))))
+    (omega (arith, at-start .pre .0), (at-start .pre .1 .0, (at-start .pre .1 .1 .0, ((λ e. absurd (at-match .rest .0 .0 .1 (at-kind-of .ensures .0 ∙ e))), (λ k. clash k (at-start .pre .1 .1 .1))))))
 
 visit-open-returns : (t : ℕ) → visit-open-lts.Need-returns (visit-open-claims t) (visit-open-at t) visit-open.Post
 visit-open-returns t c =
