@@ -1,5 +1,4 @@
-// Where the program starts. A main in Rattle has no exit status, so this one gives what kos_lesson answers: 0 where all was
-// read and printed, 1 where there was no sheet to read by, 2 where reading or writing failed.
+// A main in Rattle has no exit status: this one gives what kos_lesson answers, 0, 1 or 2.
 unsigned int kos_lesson(void);
 
 int main(void) {

@@ -138,8 +138,7 @@ fn read_some(
     }
 }
 
-// Reads the input until it ends or something fails. A proved loop has to end, and nothing says that the input does: the
-// turns are counted down from a number that no run uses up.
+// A proved loop has to end, and nothing says that the input does: turns are counted down from a number that no run uses up.
 fn read_most(table: &[u8], line: &mut Line, work: &mut Numbers, room: &mut Room) -> Turn {
     let mut length = 0;
     let mut turns = u64::MAX;
