@@ -59,7 +59,7 @@ pub enum Ending {
     Done = 0,
     /// The table is refused, or its file can't be opened.
     Refused = 1,
-    /// Something can't be read or written; one line on standard error says so.
+    /// Something can't be read or written.
     Failed = 2,
 }
 
@@ -68,30 +68,42 @@ pub enum Ending {
 pub struct Expected {
     pub printed: Vec<u8>,
     pub ending: Ending,
+    /// What can't be read or written: one line on standard error names each.
+    pub failed: Vec<&'static str>,
 }
 
 impl Case {
     pub fn expected(&self) -> Expected {
-        let (printed, ending) = match &self.grammar {
-            Grammar::Missing => (format!("{NO_TABLE}\n"), Ending::Refused),
-            Grammar::Folder => (format!("{NO_TABLE}\n"), Ending::Failed),
+        let (printed, ending, mut failed) = match &self.grammar {
+            Grammar::Missing => (format!("{NO_TABLE}\n"), Ending::Refused, vec![]),
+            Grammar::Folder => (format!("{NO_TABLE}\n"), Ending::Failed, vec!["class.gram"]),
             Grammar::Table(table) => match independent::check(table) {
                 (READ, _) => self.answered(table),
-                (code, place) => (format!("{} {place} 0\n", name(code)), Ending::Refused),
+                (code, place) => {
+                    let refusal = format!("{} {place} 0\n", name(code));
+                    (refusal, Ending::Refused, vec![])
+                }
             },
         };
-        let is_lost = self.is_full && !printed.is_empty();
+        if self.is_full && !printed.is_empty() {
+            failed.push("standard output");
+        }
         Expected {
             printed: printed.into_bytes(),
-            ending: if is_lost { Ending::Failed } else { ending },
+            ending: if failed.is_empty() {
+                ending
+            } else {
+                Ending::Failed
+            },
+            failed,
         }
     }
 
     /// An accepted table: one answer for each line.
-    fn answered(&self, table: &[u8]) -> (String, Ending) {
+    fn answered(&self, table: &[u8]) -> (String, Ending, Vec<&'static str>) {
         let bytes = match &self.input {
             Input::File(bytes) | Input::Pipe(bytes, _) => bytes,
-            Input::Folder => return (String::new(), Ending::Failed),
+            Input::Folder => return (String::new(), Ending::Failed, vec!["standard input"]),
         };
         // Many inputs have the same line over and over.
         let mut known = HashMap::new();
@@ -100,7 +112,7 @@ impl Case {
             let answer = known.entry(line).or_insert_with(|| answer(table, line));
             printed.push_str(answer);
         }
-        (printed, Ending::Done)
+        (printed, Ending::Done, vec![])
     }
 }
 

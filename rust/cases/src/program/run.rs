@@ -101,13 +101,13 @@ impl Ran {
         if self.status != Some(ending as i32) {
             return Some(format!("status {:?}, not {}", self.status, ending as i32));
         }
-        let lines = usize::from(ending == Ending::Failed);
-        let is_said = self.said.iter().filter(|&&byte| byte == super::LF).count() == lines
-            && matches!(self.said.last(), None | Some(&super::LF));
-        (with_status && !is_said).then(|| {
-            let said = String::from_utf8_lossy(&self.said);
-            format!("{lines} lines are due on standard error, not {said:?}")
-        })
+        let said = String::from_utf8_lossy(&self.said);
+        let failed = &expected.failed;
+        let is_said = said.matches('\n').count() == failed.len()
+            && (said.is_empty() || said.ends_with('\n'))
+            && failed.iter().all(|name| said.matches(name).count() == 1);
+        (with_status && !is_said)
+            .then(|| format!("standard error has {said:?} where {failed:?} is due"))
     }
 }
 
@@ -153,16 +153,17 @@ mod tests {
         }
     }
 
-    fn due(printed: &str, ending: Ending) -> Expected {
+    fn due(printed: &str, ending: Ending, failed: &[&'static str]) -> Expected {
         Expected {
             printed: printed.into(),
             ending,
+            failed: failed.to_vec(),
         }
     }
 
     #[test]
     fn what_is_printed_is_compared_byte_by_byte() {
-        let due = due("DEEP 1 5\nFAIL 0 5\n", Ending::Done);
+        let due = due("DEEP 1 5\nFAIL 0 5\n", Ending::Done, &[]);
         assert_eq!(
             ran("DEEP 1 5\nFAIL 0 5\n", 0, "").difference(&due, true),
             None
@@ -182,7 +183,7 @@ mod tests {
 
     #[test]
     fn statuses() {
-        let refused = due("SHORT 0 0\n", Ending::Refused);
+        let refused = due("SHORT 0 0\n", Ending::Refused, &[]);
         let gives = |status, said: &str, with| {
             let found = ran("SHORT 0 0\n", status, said).difference(&refused, with);
             found.is_none()
@@ -192,11 +193,14 @@ mod tests {
     }
 
     #[test]
-    fn a_failure_says_one_line() {
-        let failed = due("", Ending::Failed);
+    fn one_line_names_each_failure() {
+        let failed = due("", Ending::Failed, &["input"]);
         let gives = |said| ran("", 2, said).difference(&failed, true).is_none();
         assert!(gives("no input\n"));
-        assert!(!gives("") && !gives("no input") && !gives("no\ninput\n"));
+        assert!(!gives("") && !gives("no input") && !gives("no\ninput\n") && !gives("no output\n"));
+        let both = due("", Ending::Failed, &["input", "output"]);
+        let gives = |said| ran("", 2, said).difference(&both, true).is_none();
+        assert!(gives("no output\nno input\n") && !gives("no input\n"));
     }
 
     fn folder(name: &str) -> std::path::PathBuf {
