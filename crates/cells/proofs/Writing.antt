@@ -178,6 +178,32 @@ module _ {words room₀ room : List ℕ} {width list end rest to : ℕ} (along :
             same = (s ∙ rw (join-bytes words rest here z m width)) ∙ along .same;
           }
 
+-- One record is one tree without children.
+no-records : (ts : Trees) → recordsOf ts ≡ 0 → ts ≡ no-trees
+unfolding recordsOf
+no-records no-trees e = refl
+no-records (tree a x e cs ts) h = absurd (omega arith)
+
+module _ (words : List ℕ) (list : ℕ) (arena : Arena words list) (one : 1 ≡ saturated (recordsOf (treesAt words list))) where
+  is-one : recordsOf (treesAt words list) ≡ 1
+  is-one = omega arith
+
+  pub one-size : (width : ℕ) → recordSize width * recordsOf (treesAt words list) ≡ recordSize width
+  one-size width = rw (is-one) (mul-one (recordSize width))
+
+  pub some-list : list ≡ 0 → ⊥
+  unfolding recordsOf
+  some-list z = let e : recordsOf no-trees ≡ 1 = rw (trees-zero words list z) at is-one in omega arith
+
+  pub leaf-wrote : mark ≤ second words list → (room new : List ℕ) (width end : ℕ)
+      → new ≡ sets room (end - recordSize width) (recordBytes width (second words list / 16777216 % 64) (second words list / 4096 % 4096) (second words list % 4096) 0)
+      → Wrote room new width end (treesAt words list)
+  unfolding treesBytes numberOf
+  leaf-wrote m room new width end e =
+      let none : treesAt words (first words list) ≡ no-trees = no-records _ (omega (arith, is-one, records-one words list arena some-list m)) in
+      let bytes = rw none at (tree-bytes words list arena some-list m width) in
+      rw (is-one, mul-one (recordSize width), bytes) e
+
 -- Of few records the count is right, and so is the end that is taken from it.
 pub end-is : (width n : ℕ) (ts : Trees) → recordsOf ts ≤ 1000 → n ≡ saturated (recordsOf ts) → storedLength width n ≡ storedLength width (recordsOf ts)
 end-is width n ts few e = let n′ : n ≡ recordsOf ts = omega arith in rw n′

@@ -145,8 +145,34 @@ pub fn join(work: &mut [u32], top: u32, left: u32, right: u32) -> Held
     }
 }
 
-// Writes the records of a list of trees so that they end at `end`. Of two joined lists it calls itself for the one with fewer records and goes on
-// with the other, so its calls nest no deeper than the records can be halved.
+// Writes the records of a list of trees so that they end at `end`. One tree without children, as most lists are, takes no further call.
+fn write_list(work: &[u32], room: &mut [u8], width: usize, list: u32, end: usize)
+    requires arena { ⌜ Arena (now work) list ⌝ }
+    requires few { ⌜ (recordsOf (treesAt (now work) list) ≤ 1000) × ((0 < width) × (width ≤ 2)) ⌝ }
+    requires fits { ⌜ (recordSize width * recordsOf (treesAt (now work) list) ≤ end) × (end ≤ length (now room)) ⌝ }
+    ensures { λ _. ⌜ Wrote (now (room .entry)) (now (room .exit)) width end (treesAt (now (work .entry)) list) ⌝ }
+{
+    if records_of(work, list) == 1 {
+        let cell = FIRST_OF + 4 * list as usize;
+        let second = work[cell + 2];
+        if MARK <= second {
+            stored::put_record(
+                room,
+                width,
+                end - (3 + 2 * width),
+                second / RULE % 64,
+                second / START % START,
+                second % START,
+                0,
+            );
+            return;
+        }
+    }
+    write_trees(work, room, width, list, end);
+}
+
+// The same, cell by cell. Of two joined lists it calls for the one with fewer records and goes on with the other, so calls nest no deeper than the
+// records can be halved.
 fn write_trees(work: &[u32], room: &mut [u8], width: usize, list: u32, end: usize)
     requires arena { ⌜ Arena (now work) list ⌝ }
     requires few { ⌜ (recordsOf (treesAt (now work) list) ≤ 1000) × ((0 < width) × (width ≤ 2)) ⌝ }
@@ -180,7 +206,7 @@ fn write_trees(work: &[u32], room: &mut [u8], width: usize, list: u32, end: usiz
                 write_trees(work, room, width, first, between);
                 rest = second;
             } else {
-                write_trees(work, room, width, second, to);
+                write_list(work, room, width, second, to);
                 to = between;
                 rest = first;
             }
