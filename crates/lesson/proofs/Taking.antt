@@ -66,7 +66,7 @@ cut-text table begun (x ∷ xs) =
     by true p = rw (cut-line table begun)
     by false p = p
 
-begun-both : (begun xs ys : List ℕ) → begunBy begun (xs ++ ys) ≡ begunBy (begunBy begun xs) ys
+pub begun-both : (begun xs ys : List ℕ) → begunBy begun (xs ++ ys) ≡ begunBy (begunBy begun xs) ys
 unfolding begunBy
 begun-both begun [] ys = refl
 begun-both begun (x ∷ xs) ys = by (eqb x LF) (begun-both [] xs ys) (begun-both (begun ++ (x ∷ [])) xs ys)
@@ -76,7 +76,7 @@ begun-both begun (x ∷ xs) ys = by (eqb x LF) (begun-both [] xs ys) (begun-both
     by true p q = p
     by false p q = q
 
-text-both : (table begun xs ys : List ℕ) → textOf table begun (xs ++ ys) ≡ textOf table begun xs ++ textOf table (begunBy begun xs) ys
+pub text-both : (table begun xs ys : List ℕ) → textOf table begun (xs ++ ys) ≡ textOf table begun xs ++ textOf table (begunBy begun xs) ys
 unfolding begunBy textOf
 text-both table begun [] ys = refl
 text-both table begun (x ∷ xs) ys = by (eqb x LF) (text-both table [] xs ys) (text-both table (begun ++ (x ∷ [])) xs ys)
