@@ -204,20 +204,22 @@ fn put_use(work: &mut [u32], live: u32, key: u32, end: u32, list: u32)
     work[at + 2] = list;
 }
 
-// The live use of a pair, plus 1, or 0; at most one can fit. The search runs from the oldest.
+// The live use of a pair, plus 1, or 0; at most one can fit. The search runs from the newest.
 fn find_use(work: &mut &mut [u32], live: u32, key: u32) -> u32
     requires { ⌜ (live * 3 ≤ length (now (now work))) × (live ≤ 513) ⌝ }
     ensures { λ r. ⌜ Found (now (now (work .entry))) live key r × (now (work .exit) ≡ now (work .entry)) ⌝ }
 {
-    let mut i: u32 = 0;
-    while i < live {
-        let at = i as usize * 3;
-        if work[at] == key {
-            return i + 1;
-        }
-        i += 1;
+    if live == 0 {
+        return 0;
     }
-    0
+    let mut i = live as usize - 1;
+    while work[i * 3] != key {
+        if i == 0 {
+            return 0;
+        }
+        i -= 1;
+    }
+    i as u32 + 1
 }
 
 // What a live use holds, as an answer: list 0 is a failure.

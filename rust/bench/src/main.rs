@@ -1,5 +1,6 @@
 //! Times each reader on a thousand lines of three sheets, by the visit on lines
-//! of up to 255 bytes, and its report on small and full tables.
+//! of up to 255 bytes and with up to 409 uses live at once, and its report on
+//! small and full tables.
 //!
 //! A reading is timed as a whole: check, report, reading, storing, clearing.
 //! Clearing is part of it, since the rules say what is left in the working
@@ -9,26 +10,51 @@
 //! Per line the least of several repetitions counts, per sheet the median
 //! over its lines, and the ratio to the plain baseline.
 
+mod by_visit;
 mod lines;
 mod readers;
 
 use std::hint::black_box;
 use std::time::Instant;
 
+use by_visit::lines_by_the_visit;
 use cases::Random;
-use koskorbelu::{work_needed, MOST_ALLOWANCE, MOST_STORED};
+use koskorbelu::{work_needed, MOST_STORED};
 use readers::{readers, Reader};
-use sheets::{decimal_comma, sheet_a, sheet_b, sum};
+use sheets::{sheet_a, sheet_b, sum};
 
 /// What the program lends for each line.
 const ALLOWANCE: u64 = 2_500;
 const WORK: usize = 16_384;
 
 const LINES: usize = 1_000;
-const REPETITIONS: usize = 60;
 
-/// Calls timed together, so that reading the clock weighs little.
-const CALLS: u32 = 4;
+/// How often a line is timed, and how many calls are timed together, so that
+/// reading the clock weighs little.
+#[derive(Clone, Copy)]
+struct Pace {
+    repetitions: usize,
+    calls: u32,
+}
+
+const CLASS: Pace = Pace {
+    repetitions: 60,
+    calls: 4,
+};
+
+impl Pace {
+    /// One call of a long reading is enough to outweigh the clock, and fewer
+    /// repetitions keep the whole run short.
+    fn of(visits: u64) -> Pace {
+        if visits < 20_000 {
+            return CLASS;
+        }
+        Pace {
+            repetitions: (10_000_000 / visits).clamp(10, 60) as usize,
+            calls: 1,
+        }
+    }
+}
 
 struct Sheet {
     name: &'static str,
@@ -74,7 +100,7 @@ fn main() {
     for sheet in class_sheets() {
         let mut lent = Lent::new(WORK);
         let codes = agree(&readers, &sheet, &mut lent);
-        let times = time(&readers, &sheet, &mut lent);
+        let times = time(&readers, &sheet, &mut lent, CLASS);
         let clearing = median(times.iter().map(|line| line.clearing).collect());
         println!();
         println!("sheet {}: {LINES} lines, {codes}", sheet.name);
@@ -85,13 +111,14 @@ fn main() {
         let line = &sheet.lines[0];
         let mut lent = Lent::new(sheet.cleared(line));
         let codes = agree(&readers, &sheet, &mut lent);
-        let times = time(&readers, &sheet, &mut lent);
+        let times = time(&readers, &sheet, &mut lent, Pace::of(visits));
         println!();
         println!(
             "by the visit, {}: {} bytes, {visits} visits, {codes}",
             sheet.name,
             line.len()
         );
+        by_visit::print_live_uses(&sheet, visits);
         println!(
             "  ns a visit       whole  ratio      rest  ratio   (clearing {:.2})",
             times[0].clearing / visits as f64
@@ -141,10 +168,10 @@ fn full(last_may_be_empty: bool) -> sheets::Sheet {
 /// The least time of a report by each reader, and the ratio to the baseline.
 fn print_reports(readers: &[Reader], table: &[u8]) {
     let mut least = vec![f64::INFINITY; readers.len()];
-    for _ in 0..REPETITIONS * 5 {
+    for _ in 0..CLASS.repetitions * 5 {
         for (reader, least) in readers.iter().zip(&mut least) {
             assert_eq!((reader.report)(table), (readers[0].report)(table));
-            let once = time_calls(|| {
+            let once = time_calls(CLASS.calls, || {
                 black_box((reader.report)(black_box(table)));
             });
             *least = least.min(once);
@@ -170,40 +197,6 @@ fn class_sheets() -> [Sheet; 3] {
         make("B", sheet_b(), lines::for_b),
         make("sum", sum(), lines::for_sums),
     ]
-}
-
-/// One line each, with its visits; it is lent just what it needs. Of the sum
-/// sheet three lengths: what a visit costs should not grow with the line.
-fn lines_by_the_visit() -> Vec<(Sheet, u64)> {
-    let ones = |count: usize, between: &str| vec!["1"; count].join(between).into_bytes();
-    let long = [
-        ("sheet A", sheet_a(), ones(128, "+")),
-        ("sum", sum(), ones(8, "+")),
-        ("sum", sum(), ones(32, "+")),
-        ("sum", sum(), ones(128, "+")),
-        ("decimal comma, free", decimal_comma(), ones(255, "")),
-    ];
-    let with_visits = long.into_iter().map(|(name, sheet, line)| {
-        let mut sheet = Sheet {
-            name,
-            table: sheet.bytes(),
-            lines: vec![line],
-            allowance: MOST_ALLOWANCE,
-        };
-        let line = &sheet.lines[0];
-        let mut lent = Lent::new(sheet.cleared(line));
-        let answer = plain::read(
-            &sheet.table,
-            line,
-            MOST_ALLOWANCE,
-            &mut lent.work,
-            &mut lent.room,
-            true,
-        );
-        sheet.allowance = answer.visits;
-        (sheet, answer.visits)
-    });
-    with_visits.collect()
 }
 
 /// A comparison of readers that differ means nothing: all must give the same
@@ -249,7 +242,7 @@ fn agree(readers: &[Reader], sheet: &Sheet, lent: &mut Lent) -> String {
 }
 
 /// The times of each line.
-fn time(readers: &[Reader], sheet: &Sheet, lent: &mut Lent) -> Vec<Times> {
+fn time(readers: &[Reader], sheet: &Sheet, lent: &mut Lent, pace: Pace) -> Vec<Times> {
     let unknown = || Times {
         readings: vec![f64::INFINITY; readers.len()],
         clearing: f64::INFINITY,
@@ -257,23 +250,23 @@ fn time(readers: &[Reader], sheet: &Sheet, lent: &mut Lent) -> Vec<Times> {
     let mut times: Vec<Times> = sheet.lines.iter().map(|_| unknown()).collect();
     // Readers and lines take turns, so that a slow moment of the machine
     // falls on all of them alike.
-    for _ in 0..REPETITIONS {
+    for _ in 0..pace.repetitions {
         for (index, reader) in readers.iter().enumerate() {
             for (line, times) in sheet.lines.iter().zip(&mut times) {
-                let once = time_reading(reader, sheet, line, lent);
+                let once = time_reading(reader, sheet, line, lent, pace.calls);
                 times.readings[index] = times.readings[index].min(once);
             }
         }
         for (line, times) in sheet.lines.iter().zip(&mut times) {
-            let once = time_clearing(sheet.cleared(line), lent);
+            let once = time_clearing(sheet.cleared(line), lent, pace.calls);
             times.clearing = times.clearing.min(once);
         }
     }
     times
 }
 
-fn time_reading(reader: &Reader, sheet: &Sheet, line: &[u8], lent: &mut Lent) -> f64 {
-    time_calls(|| {
+fn time_reading(reader: &Reader, sheet: &Sheet, line: &[u8], lent: &mut Lent, calls: u32) -> f64 {
+    time_calls(calls, || {
         let answer = (reader.read)(
             black_box(&sheet.table),
             black_box(line),
@@ -286,17 +279,17 @@ fn time_reading(reader: &Reader, sheet: &Sheet, line: &[u8], lent: &mut Lent) ->
     })
 }
 
-fn time_clearing(numbers: usize, lent: &mut Lent) -> f64 {
-    time_calls(|| black_box(&mut lent.work[..numbers]).fill(0))
+fn time_clearing(numbers: usize, lent: &mut Lent, calls: u32) -> f64 {
+    time_calls(calls, || black_box(&mut lent.work[..numbers]).fill(0))
 }
 
 /// Nanoseconds a call.
-fn time_calls(mut call: impl FnMut()) -> f64 {
+fn time_calls(calls: u32, mut call: impl FnMut()) -> f64 {
     let start = Instant::now();
-    for _ in 0..CALLS {
+    for _ in 0..calls {
         call();
     }
-    start.elapsed().as_nanos() as f64 / f64::from(CALLS)
+    start.elapsed().as_nanos() as f64 / f64::from(calls)
 }
 
 /// For each reader the median over the lines, whole and without clearing, of

@@ -6,11 +6,13 @@
 
 mod reading;
 mod report;
+mod searches;
 mod stored;
 mod table;
 
-pub use reading::{read, Answer};
+pub use reading::{read, searches, Answer};
 pub use report::{report, Report};
+pub use searches::Searches;
 pub use stored::well_formed;
 pub use table::check;
 

@@ -5,6 +5,7 @@ use std::fmt;
 use std::rc::Rc;
 
 use crate::report::is_free;
+use crate::searches::Searches;
 use crate::stored::{store, stored_length};
 use crate::table::{open, Node, Table};
 use crate::{names, Refusal, ALLOW, DEEP, EFFORT, FAIL, LINE, READ, RECORDS, REST, ROOM, WORK};
@@ -111,19 +112,19 @@ pub fn read(
         *number = 0;
     }
 
-    let mut reading = Reading {
-        table: &table,
-        line,
-        allowance,
-        free: is_free(&table),
-        visits: 0,
-        open: 0,
-        kept: HashMap::new(),
-        held: HashMap::new(),
-    };
+    let mut reading = Reading::new(&table, line, allowance);
     let outcome = reading.use_rule(0, 0);
     let visits = reading.visits;
     conclude(outcome, visits, line.len(), room, whole)
+}
+
+/// How live uses are looked for while a line is read, to its end or until it
+/// is refused for effort or depth; `None` if the table is refused.
+pub fn searches(table: &[u8], line: &[u8], allowance: u64) -> Option<Searches> {
+    let table = open(table).ok()?;
+    let mut reading = Reading::new(&table, line, allowance);
+    let _ = reading.use_rule(0, 0);
+    Some(reading.searches)
 }
 
 /// Codes 1 to 10 return zeros else.
@@ -185,11 +186,28 @@ struct Reading<'a> {
     open: u64,
     /// Free grammars: the answer of each finished pair (node, position).
     kept: HashMap<(usize, usize), Outcome>,
-    /// All others: what is held for each live pair (rule, position).
-    held: HashMap<(usize, usize), Outcome>,
+    /// All others: what is held for each live pair (rule, position), and how
+    /// many were live before it.
+    held: HashMap<(usize, usize), (Outcome, u64)>,
+    /// Counted beside the rules.
+    searches: Searches,
 }
 
-impl Reading<'_> {
+impl<'a> Reading<'a> {
+    fn new(table: &'a Table, line: &'a [u8], allowance: u64) -> Reading<'a> {
+        Reading {
+            table,
+            line,
+            allowance,
+            free: is_free(table),
+            visits: 0,
+            open: 0,
+            kept: HashMap::new(),
+            held: HashMap::new(),
+            searches: Searches::default(),
+        }
+    }
+
     /// One application of a node at a position. An error is the refusal of
     /// this visit or of one made while it was open.
     fn visit(&mut self, number: usize, position: usize) -> Result<Outcome, Refusal> {
@@ -290,18 +308,26 @@ impl Reading<'_> {
             let outcome = self.visit(self.table.roots[rule], position)?;
             return Ok(as_one_tree(rule, position, outcome));
         }
+        let live = self.held.len() as u64;
         match self.held.get(&(rule, position)) {
-            Some(held) => Ok(held.clone()),
-            None => self.grow(rule, position),
+            Some((held, older)) => {
+                self.searches.find(live, *older);
+                Ok(held.clone())
+            }
+            None => {
+                self.searches.miss(live);
+                self.grow(rule, position)
+            }
         }
     }
 
     /// A use that isn't live becomes live with failure held and is grown.
     fn grow(&mut self, rule: usize, position: usize) -> Result<Outcome, Refusal> {
         let pair = (rule, position);
+        let older = self.held.len() as u64;
         let mut held = Outcome::Failure;
         loop {
-            self.held.insert(pair, held.clone());
+            self.held.insert(pair, (held.clone(), older));
             let attempt = self.visit(self.table.roots[rule], position)?;
             if !is_longer(&attempt, &held) {
                 break;

@@ -534,3 +534,40 @@ fn every_code_has_its_name() {
     assert_eq!(names(17), None);
     assert_eq!(names(u64::MAX), None);
 }
+
+/// On `1` S tries itself and then D, twice each; S is the only live use then.
+#[test]
+fn searches_on_sheet_a() {
+    let expected = Searches {
+        made: 5,
+        found: 2,
+        most_live: 1,
+        live: 4,
+        found_from_newest: 2,
+        found_from_oldest: 2,
+        in_vain: 2,
+    };
+    assert_eq!(searches(&sheet_a(), b"1", 100), Some(expected));
+    assert_eq!(searches(&[], b"1", 100), None);
+}
+
+/// R <- 'a' R / L; L <- L 'c' / 'c': on `ac` R is live at both positions when
+/// L becomes live as the newest of three, and only L is ever found.
+#[test]
+fn the_newest_of_three_is_found_first() {
+    let nodes = [
+        (RANGE, 97, 97),
+        (RULE, 0, 0),
+        (SEQ, 0, 1),
+        (RULE, 1, 0),
+        (CHOICE, 2, 3),
+        (RANGE, 99, 99),
+        (SEQ, 3, 5),
+        (CHOICE, 6, 5),
+    ];
+    let counted = searches(&table(&[4, 7], &nodes), b"ac", 1_000).expect("an accepted table");
+    assert_eq!(counted.most_live, 3);
+    assert!(counted.found > 0);
+    assert_eq!(counted.found_from_newest, counted.found);
+    assert_eq!(counted.found_from_oldest, 3 * counted.found);
+}

@@ -308,8 +308,8 @@ impl Reading<'_> {
     /// A use of a rule in any other grammar: what is held if it is live.
     fn use_held(&mut self, rule: u32, position: u32, open: u32) -> Outcome {
         let pair = pair(rule, position);
-        // From the oldest entry on.
-        for &[live, end, trees] in &self.live[..self.live_uses] {
+        // From the newest entry on.
+        for &[live, end, trees] in self.live[..self.live_uses].iter().rev() {
             if live == pair {
                 return Outcome { end, trees };
             }
