@@ -6,8 +6,8 @@ use sheets::{decimal_comma, sheet_a, sum};
 
 use crate::{Lent, Sheet};
 
-/// Lines that nobody would wait for are cut off after so many visits. By then
-/// nearly all of them were made with all the uses live.
+/// Lines that nobody would wait for are cut off after so many visits, nearly
+/// all of them made with all the uses live.
 const CUT: u64 = 100_000;
 
 /// One line each, with its visits; it is lent just what it needs.
@@ -103,26 +103,28 @@ fn one(name: &'static str, sheet: sheets::Sheet, line: String, allowance: u64) -
 /// With its visits as its allowance, and one more where it gets too deep: a
 /// spent allowance is named first.
 fn with_visits(mut sheet: Sheet) -> (Sheet, u64) {
-    let line = &sheet.lines[0];
-    let mut lent = Lent::new(sheet.cleared(line));
-    let answer = plain::read(
-        &sheet.table,
-        line,
-        sheet.allowance,
-        &mut lent.work,
-        &mut lent.room,
-        true,
-    );
+    let answer = answer(&sheet);
     let deep = answer.code == independent::DEEP;
     sheet.allowance = answer.visits + u64::from(deep);
     (sheet, answer.visits)
 }
 
+fn answer(sheet: &Sheet) -> plain::Answer {
+    let line = &sheet.lines[0];
+    let mut lent = Lent::new(sheet.cleared(line));
+    let Lent { work, room } = &mut lent;
+    plain::read(&sheet.table, line, sheet.allowance, work, room, true)
+}
+
+fn searches(sheet: &Sheet) -> independent::Searches {
+    independent::searches(&sheet.table, &sheet.lines[0], sheet.allowance)
+        .expect("the table of a sheet is accepted")
+}
+
 /// How many uses are live while the line is read, and how many entries of a
 /// list of them are gone through to find one. Nothing is live on a free sheet.
 pub fn print_live_uses(sheet: &Sheet, visits: u64) {
-    let searches = independent::searches(&sheet.table, &sheet.lines[0], sheet.allowance)
-        .expect("the readers agree that the table is accepted");
+    let searches = searches(sheet);
     if searches.made == 0 {
         return;
     }
@@ -159,19 +161,7 @@ mod tests {
 
     fn code_and_most_live(sheet: sheets::Sheet, line: String, allowance: u64) -> (u64, u64) {
         let sheet = one("", sheet, line, allowance);
-        let line = &sheet.lines[0];
-        let mut lent = Lent::new(sheet.cleared(line));
-        let code = plain::read(
-            &sheet.table,
-            line,
-            allowance,
-            &mut lent.work,
-            &mut lent.room,
-            true,
-        )
-        .code;
-        let searches = independent::searches(&sheet.table, line, allowance);
-        (code, searches.expect("an accepted table").most_live)
+        (answer(&sheet).code, searches(&sheet).most_live)
     }
 
     #[test]
