@@ -1,20 +1,21 @@
--- Chains of starts: they join, and one from a rule's root to a use of the same rule makes the rule left-recursive.
+-- Chains join; one of starts from a rule's root to a use of the same rule makes the rule left-recursive.
 use mathlib.Core.Path.{_≡_, refl, sym, _∙_}
 use Prim.Native.Nat.{ℕ}
 use Rattle.meaning.specs.Grammar.{Node, rule, Grammar, root}
-use Rattle.meaning.specs.Report.{Starts, by-rule, Leads, here, on, LeftRecursive}
+use Rattle.meaning.specs.Report.{Starts, by-rule, Chain, Leads, here, on, LeftRecursive}
 
-module _ (g : Grammar) where
+module _ {Step : Node → Node → Type 0} where
   -- A step, then a chain.
-  pub first : {p q w : Node} → Starts g p q → Leads g q w → Leads g p w
+  pub first : {p q w : Node} → Step p q → Chain Step q w → Chain Step p w
   first k here = on here k
   first k (on h l) = on (first k h) l
 
   -- A chain, then a chain.
-  pub then : {p q w : Node} → Leads g p q → Leads g q w → Leads g p w
+  pub then : {p q w : Node} → Chain Step p q → Chain Step q w → Chain Step p w
   then h here = h
   then h (on k l) = on (then h k) l
 
+module _ (g : Grammar) where
   round-from : (a : ℕ) {p q : Node} → Leads g p q → p ≡ root g a → q ≡ rule a → LeftRecursive g a
   round-from a here e f =
       let same : root g a ≡ rule a = sym e ∙ f in

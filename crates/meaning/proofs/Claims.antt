@@ -8,7 +8,7 @@ use lib.ListN.{length}
 use native.Mathlib.Omega.{arith}
 use Rattle.meaning.specs.Grammar.{rule, Grammar, rootOf, Closed, Answer, wrap}
 use Rattle.meaning.specs.Rules.{Plain, var, Reads}
-use Rattle.meaning.specs.Report.{Free, bound}
+use Rattle.meaning.specs.Report.{start, Free, bound}
 use Rattle.meaning.specs.Decide.{isFree}
 use Rattle.meaning.specs.Reading.{made, readBy, read}
 use Rattle.meaning.proofs.Answers.{Same}
@@ -20,6 +20,7 @@ use Rattle.meaning.proofs.Complete.{read-complete, read-short}
 use Rattle.meaning.proofs.Kept.{read-plain}
 use Rattle.meaning.proofs.Conserve.{plain-reads}
 use Rattle.meaning.proofs.Answered as A
+use Rattle.meaning.proofs.Reached.{met-root}
 use Rattle.meaning.proofs.Free.{total}
 use Rattle.meaning.proofs.Effort.{effort-left}
 use Rattle.meaning.proofs.Ceiling.{visits-at-most, never-effort}
@@ -78,7 +79,7 @@ module _ (g : Grammar) (line : List ℕ) where
         module _ (rules : 0 < length (g .roots)) where
           -- Every line has an answer by the plain rules.
           pub free-answered : (r : Answer) × Plain g line (rule 0) 0 r
-          free-answered = let h = total g line good free (rootOf g 0) 0 (good .roots 0 rules) (omega arith) in (wrap 0 0 (h .0), var (h .1))
+          free-answered = let h = total g line good free (rootOf g 0) 0 (good .roots 0 rules) (met-root g start) (omega arith) in (wrap 0 0 (h .0), var (h .1))
 
           -- Free, visits: at most 2 x N x (L + 1) + 1 for N nodes and L bytes, done or refused.
           pub free-visits : Ends (λ t. made allowance t ≤ bound g line) (λ t. made allowance t ≤ bound g line) (λ r t. made allowance t ≤ bound g line) (read g line allowance)

@@ -1,4 +1,4 @@
--- In a free grammar no use is met while it is live: the bounded rules answer what the plain rules answer, so these answer on every line.
+-- In a free grammar no use that is reached is met while it is live: the bounded rules answer there what the plain rules answer, so these answer on every line.
 use mathlib.Core.Path.{_≡_, refl, subst}
 use mathlib.Core.Logic.{_≢_, _⊎_, inl, inr}
 use Prim.Native.Nat.{ℕ, _<_, _≤_}
@@ -9,10 +9,11 @@ use native.Mathlib.Omega.{arith}
 use Rattle.meaning.specs.Grammar.{Node, rule, seq, choice, not, rep, Grammar, node, rootOf, root, Below, Closed, Trees, Answer, fail, ok, wrap, Note, noted, look}
 use Rattle.meaning.specs.Rules.{Plain, Goal, at, inc, Bounded}
 use Rattle.meaning.specs.Rules as R
-use Rattle.meaning.specs.Report.{Starts, by-not, by-rep, by-choice, by-other, by-first, by-second, by-rule, Leads, here, on, Free}
+use Rattle.meaning.specs.Report.{Starts, by-not, by-rep, by-choice, by-other, by-first, by-second, by-rule, Leads, here, on, to-second, Free}
 use Rattle.meaning.proofs.Answers.{ends, never′, found}
 use Rattle.meaning.proofs.Notes.{look-cases}
 use Rattle.meaning.proofs.Chains.{round}
+use Rattle.meaning.proofs.Reached.{Met, met-root, met-child, met-rule, met-start}
 use Rattle.meaning.proofs.OnePlain.{one-answer}
 use Rattle.meaning.proofs.Conserve.{lemma-1}
 use Rattle.meaning.proofs.Spans.{Span, spans}
@@ -24,18 +25,20 @@ unfolding look
 span g line h = spans g line (lemma-1 g line h .1) (λ b w q e. found refl e)
 
 module _ (g : Grammar) (line : List ℕ) (good : Closed g) (free : Free g) where
-  -- What is live, is so at x or before; from a rule that is live at x a chain leads to p.
+  -- Node p is reached. What is live, is so at x or before; from a rule that is live at x a chain leads to p.
   pub record Comes (l : List Note) (p : Node) (x : ℕ) : Type 0 where
+    pub met : Met g p
     pub number : (a w : ℕ) (q : Answer) → look l a w ≡ some q → a < length (g .roots)
     pub before : (a w : ℕ) (q : Answer) → look l a w ≡ some q → w ≤ x
     pub leads : (a w : ℕ) (q : Answer) → look l a w ≡ some q → w ≡ x → Leads g (root g a) p
 
   comes-by : {l : List Note} {p q : Node} {x : ℕ} → Comes l p x → Starts g p q → Comes l q x
-  comes-by c k = record { number = c .number; before = c .before; leads = λ a w q e z. on (c .leads a w q e z) k }
+  comes-by c k = record { met = met-start g k (c .met); number = c .number; before = c .before; leads = λ a w q e z. on (c .leads a w q e z) k }
 
   -- Past x nothing is live.
-  comes-past : {l : List Note} {p : Node} (q : Node) {x y : ℕ} → Comes l p x → x < y → Comes l q y
-  comes-past q c lt = record {
+  comes-past : {l : List Note} {p : Node} {x y : ℕ} → Comes l p x → x < y → Comes l p y
+  comes-past c lt = record {
+    met = c .met;
     number = c .number;
     before = λ a w r e. let z = c .before a w r e in omega arith;
     leads = λ a w r e f. let z = c .before a w r e in absurd (omega arith);
@@ -45,6 +48,7 @@ module _ (g : Grammar) (line : List ℕ) (good : Closed g) (free : Free g) where
   comes-after {l} {a} {b} {x} {y} c s =
       let f = s .forward in
       record {
+        met = met-child g (c .met) to-second;
         number = c .number;
         before = λ d w q e. let z = c .before d w q e in omega arith;
         leads = λ d w q e z. let u = c .before d w q e in on (c .leads d w q e (omega arith)) (by-second (s .empty (omega arith)));
@@ -65,6 +69,7 @@ module _ (g : Grammar) (line : List ℕ) (good : Closed g) (free : Free g) where
   -- The root of a rule that becomes live.
   comes-live : {l : List Note} {a x : ℕ} (r : Answer) → a < length (g .roots) → Comes l (rule a) x → Comes (noted a x r l) (root g a) x
   comes-live {l} {a} {x} r la c = record {
+    met = met-root g (met-rule g (c .met));
     number = λ b w q e. number-case l (rule a) a x b w r q la c (look-cases l a x r b w e);
     before = λ b w q e. before-case l (rule a) a x b w r q c (look-cases l a x r b w e);
     leads = λ b w q e z. leads-case l a x b w r q c z (look-cases l a x r b w e);
@@ -111,7 +116,7 @@ module _ (g : Grammar) (line : List ℕ) (good : Closed g) (free : Free g) where
       let d = becomes h a (omega arith) refl (comes-by c by-rep) in
       let f = span g line d .forward in
       let ne : x ≢ y = q in
-      R.rep2 d q (becomes k i li e (comes-past (rep a) c (omega arith)))
+      R.rep2 d q (becomes k i li e (comes-past c (omega arith)))
   becomes (R.rep3 {a = a} h) = λ i li e c. let la : a < i = below i (rep a) li e in R.rep3 (becomes h a (omega arith) refl (comes-by c by-rep))
   becomes (R.lvar1 {a = a} {x = x} q h k) = λ i li e c.
       let la : a < length (g .roots) = below i (rule a) li e in
@@ -119,18 +124,18 @@ module _ (g : Grammar) (line : List ℕ) (good : Closed g) (free : Free g) where
       subst (λ s. Plain g line (rule a) x (wrap a x s)) (becomes k la c d) (R.var d)
   becomes (R.lvar2 {a = a} q h) = λ i li e c.
       let la : a < length (g .roots) = below i (rule a) li e in R.var (becomes h (rootOf g a) (good .roots a la) refl (comes-live fail la c))
-  becomes (R.lvar3 {a = a} {x = x} {r = r} q) = λ i li e c. absurd (free .none a (c .number a x r q) (round g a (c .leads a x r q refl)))
+  becomes (R.lvar3 {a = a} {x = x} {r = r} q) = λ i li e c. absurd (free .none a (c .number a x r q) (met-rule g (c .met)) (round g a (c .leads a x r q refl)))
   becomes (R.inc1 {a = a} {e = e} {e′ = e′} {ts = ts} h lt k) = λ la c d.
       let z : e ≡ e′ = ends (one-answer g line d (becomes h (rootOf g a) (good .roots a la) refl (comes-live (ok e ts) la c))) in absurd (omega arith)
   becomes (R.inc2 {a = a} {e = e} {ts = ts} h) = λ la c d. never′ (one-answer g line (becomes h (rootOf g a) (good .roots a la) refl (comes-live (ok e ts) la c)) d)
   becomes (R.inc3 h le) = λ la c d. refl
 
-  -- Every start has a plain answer.
-  pub total : (i x : ℕ) → i < length (g .nodes) → x ≤ length line → (r : Answer) × Plain g line (node g i) x r
+  -- Every node that is reached has a plain answer everywhere.
+  pub total : (i x : ℕ) → i < length (g .nodes) → Met g (node g i) → x ≤ length line → (r : Answer) × Plain g line (node g i) x r
   unfolding look
-  total i x li inside =
+  total i x li met inside =
       let h = lemma-2 g line good [] (λ b w q e. found refl e) i x li inside in (
         h .answer,
         becomes (h .rules) i li refl
-            (record { number = λ a w q e. found refl e; before = λ a w q e. found refl e; leads = λ a w q e z. found refl e }),
+            (record { met = met; number = λ a w q e. found refl e; before = λ a w q e. found refl e; leads = λ a w q e z. found refl e }),
       )

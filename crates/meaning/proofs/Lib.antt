@@ -1,6 +1,7 @@
 pub mod Choose
 pub mod Sets
 pub mod Chains
+pub mod Reached
 pub mod Answers
 pub mod Runs
 pub mod Notes
@@ -21,5 +22,6 @@ pub mod Lower
 pub mod Ceiling
 pub mod Settle
 pub mod Through
+pub mod Marks
 pub mod Decided
 pub mod Claims

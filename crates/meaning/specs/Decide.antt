@@ -1,4 +1,5 @@
--- Which rules may be empty, which are left-recursive and whether a grammar is free, computed with lists of marks, a mark for each node or rule.
+-- Which rules may be empty, which are left-recursive, which are reachable and whether a grammar is free, computed with lists of marks, a mark for each node
+-- or rule.
 -- Nobody need believe it: proofs/Decided shows that this is what Report says.
 use Prim.Native.Nat.{ℕ, zero, suc}
 use mathlib.Core.Bool.{Bool, true, false, _&&_, _||_, cond}
@@ -84,21 +85,38 @@ module _ (g : Grammar) where
   startsOf es (not a) = only a
   startsOf es (rep a) = only a
 
-  -- For each node the nodes that a chain of one or more steps leads to.
+  -- For each node the nodes that a chain of one or more steps leads to, by the nodes to which one step does.
+  abbrev pub chained : (Node → List Bool) → List (List Bool)
+  chained steps = throughAll (length (g .nodes)) (map steps (g .nodes))
+
   unfoldable pub ledTo : List (List Bool)
   unfolding emptyNodes
-  ledTo = let es = emptyNodes in throughAll (length (g .nodes)) (map (startsOf es) (g .nodes))
+  ledTo = let es = emptyNodes in chained (startsOf es)
 
   -- The rules to a use of which a chain leads from rule a's root.
   unfoldable pub reach : ℕ → List Bool
   unfolding ledTo emptyNodes
   reach a = used (g .nodes) (getD ledTo (rootOf g a) [])
 
-  -- None of the first k rules is left-recursive.
-  abbrev pub noneOf : ℕ → Bool
-  noneOf zero = true
-  noneOf (suc k) = B.not (getD (reach k) k false) && noneOf k
+  -- The nodes that are reached from a node by one step: its children, and the root of the rule that it uses.
+  abbrev pub goesTo : Node → List Bool
+  goesTo empty = []
+  goesTo (range lo hi) = []
+  goesTo (rule a) = only (rootOf g a)
+  goesTo (seq a b) = either (only a) (only b)
+  goesTo (choice a b) = either (only a) (only b)
+  goesTo (not a) = only a
+  goesTo (rep a) = only a
+
+  -- The reachable rules: rule 0, and those of which a node is a use that is reached from its root.
+  unfoldable pub reachable : List Bool
+  reachable = either (only 0) (used (g .nodes) (either (only (rootOf g 0)) (getD (chained goesTo) (rootOf g 0) [])))
+
+  -- None of the first k rules that are marked is left-recursive.
+  abbrev pub noneOf : List Bool → ℕ → Bool
+  noneOf rs zero = true
+  noneOf rs (suc k) = B.not (getD rs k false && getD (reach k) k false) && noneOf rs k
 
   unfoldable pub isFree : Bool
-  unfolding reach ledTo emptyNodes
-  isFree = noneOf (length (g .roots))
+  unfolding reach ledTo emptyNodes reachable
+  isFree = noneOf reachable (length (g .roots))
