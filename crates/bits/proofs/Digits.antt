@@ -1,6 +1,6 @@
 -- The digits of a mask: what `|`, `&`, `<<`, the count of ones, the count of trailing zeros and two halves do to them.
 use mathlib.Core.Path.{_≡_, refl, sym, ap, ap₂, _∙_}
-use mathlib.Core.Bool.{Bool, true, false, not, _||_}
+use mathlib.Core.Bool.{Bool, true, false, not, _&&_, _||_}
 use Prim.Native.Nat.{ℕ, zero, suc, _+_, _*_, _/_, _%_, _^_, _≤_, _<_, min, max}
 use native.Mathlib.Nat.{zero-mul, mod-lt, mul-assoc, mul-one, add-zero, pow-suc, min-zero}
 use native.Mathlib.Numerals.{add-one}
@@ -72,13 +72,32 @@ pub has-or : (a b i : ℕ) → has (bitOr a b) i ≡ (has a i || has b i)
 unfolding has
 has-or a b i = ap (λ (x : ℕ). eqb x 1) (digit-or a b i) ∙ max-low (digit a i) (digit b i) (digit-low a i) (digit-low b i) .1
 
-le-or : (a b : ℕ) → a ≤ bitOr a b
+pub le-or : (a b : ℕ) → a ≤ bitOr a b
 le-or a b = omega (arith, or-add-and a b, and-le-r a b)
 
 pub added : (m i : ℕ) → i < 64 → Added m i (bitOr m ((1 * 2 ^ i) % 2 ^ 64))
 added m i h = rw (shifted i h) (record { bits = λ j. has-or m (1 * 2 ^ i) j ∙ ap (λ t. has m j || t) (has-shift i j); grows = le-or m (1 * 2 ^ i) })
 
 -- ---- and
+
+min-low : (x y : ℕ) → x < 2 → y < 2 → (min x y < 2) × (eqb (min x y) 1 ≡ (eqb x 1 && eqb y 1))
+min-low zero zero p q = (lit< tt, refl)
+min-low zero (suc zero) p q = (lit< tt, refl)
+min-low (suc zero) zero p q = (lit< tt, refl)
+min-low (suc zero) (suc zero) p q = (lit< tt, refl)
+min-low (suc (suc x)) y p q = absurd (omega arith)
+min-low zero (suc (suc y)) p q = absurd (omega arith)
+min-low (suc zero) (suc (suc y)) p q = absurd (omega arith)
+
+digit-and : (a b i : ℕ) → digit (bitAnd a b) i ≡ min (digit a i) (digit b i)
+unfolding digit
+digit-and a b zero = rw (and-step a b) (digits-mod (bitAnd (a / 2) (b / 2)) (min-low (a % 2) (b % 2) (low a) (low b) .0))
+digit-and a b (suc i) =
+    ap (λ (x : ℕ). digit x i) (rw (and-step a b) (digits-div (bitAnd (a / 2) (b / 2)) (min-low (a % 2) (b % 2) (low a) (low b) .0))) ∙ digit-and (a / 2) (b / 2) i
+
+pub has-and : (a b i : ℕ) → has (bitAnd a b) i ≡ (has a i && has b i)
+unfolding has
+has-and a b i = ap (λ (x : ℕ). eqb x 1) (digit-and a b i) ∙ min-low (digit a i) (digit b i) (digit-low a i) (digit-low b i) .1
 
 and-shift : (m i : ℕ) → bitAnd m (1 * 2 ^ i) ≡ digit m i * 2 ^ i
 unfolding digit

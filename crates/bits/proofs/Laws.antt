@@ -1,6 +1,7 @@
--- The laws of masks for callers: when two masks are equal, what the empty set is, and what the halves of a mask give.
-use mathlib.Core.Path.{_≡_, sym, ap, _∙_}
-use mathlib.Core.Bool.{Bool, true, false}
+-- The laws of masks for callers: when two masks are equal, what the empty set is, when two sets are apart, and what the halves of a mask give.
+use mathlib.Core.Path.{_≡_, refl, sym, ap, _∙_}
+use mathlib.Core.Bool.{Bool, true, false, and-eq-true-iff, false≢true}
+use mathlib.Core.Logic.{_↔_}
 use mathlib.Core.List.{List, [], _∷_}
 use Prim.Native.Nat.{ℕ, zero, suc, _+_, _*_, _/_, _%_, _^_, _≤_, _<_}
 use native.Mathlib.Nat.{pow-suc}
@@ -9,9 +10,11 @@ use lib.Dec.{lit<, eqb}
 use lib.Arith.{digits-div, digits-mod}
 use lib.Pow.{pow-mono, split}
 use lib.ListN.{getD, length}
+use borrow.Author.Tests.{eqb-true, eq-eqb}
+use lib.Bits.{bitAnd, and-le-l}
 use lib.Count.{ones, trailing-of-zero}
-use Rattle.bits.specs.Mask.{digit, has, one, howMany, least, maskOf}
-use Rattle.bits.proofs.Digits.{low, digit-zero, is-one, one-low, half-lt, counted, lowest-is}
+use Rattle.bits.specs.Mask.{digit, has, Apart, one, howMany, least, maskOf}
+use Rattle.bits.proofs.Digits.{low, digit-zero, is-one, has-and, one-low, half-lt, counted, lowest-is}
 
 -- ---- the empty set
 
@@ -39,6 +42,23 @@ same-mask (suc k) a b ha hb h =
     let l = same-digit (a % 2) (b % 2) (low a) (low b) (h 0 (omega arith)) in
     let r = same-mask k (a / 2) (b / 2) (half-lt a k ha) (half-lt b k hb) (λ i lt. h (suc i) (omega arith)) in
     omega arith
+
+-- A mask without a rule is 0.
+pub no-rule : (m : ℕ) → m < 2 ^ 64 → ((i : ℕ) → has m i ≡ true → ⊥) → m ≡ 0
+no-rule m h none = same-mask 64 m 0 h (lit< tt) (λ i lt. out (has m i) (none i) ∙ sym (has-none i))
+  where
+    out : (b : Bool) → (b ≡ true → ⊥) → b ≡ false
+    out true n = absurd (n refl)
+    out false n = refl
+
+-- ---- two sets
+
+pub apart-iff : (a b : ℕ) → a < 2 ^ 64 → (eqb (bitAnd a b) 0 ≡ true) ↔ Apart a b
+apart-iff a b h = (
+  λ e i p q. false≢true (sym (has-none i) ∙ ap (λ (m : ℕ). has m i) (sym (eqb-true (bitAnd a b) 0 e)) ∙ has-and a b i ∙ and-eq-true-iff (has a i) (has b i) .1 (p, q)),
+  λ n. eq-eqb (bitAnd a b) 0
+      (no-rule (bitAnd a b) (omega (arith, and-le-l a b)) (λ i e. let w = and-eq-true-iff (has a i) (has b i) .0 (sym (has-and a b i) ∙ e) in n i (w .0) (w .1))),
+)
 
 -- ---- the mask of a list of marks
 

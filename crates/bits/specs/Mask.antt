@@ -19,6 +19,10 @@ pub record Added (m i r : ℕ) : Type 0 where
   pub bits : (j : ℕ) → has r j ≡ (has m j || eqb j i)
   pub grows : m ≤ r
 
+-- No number is in both sets.
+abbrev pub Apart : ℕ → ℕ → Type 0
+Apart a b = (i : ℕ) → has a i ≡ true → has b i ≡ true → ⊥
+
 abbrev pub one : Bool → ℕ
 one true = 1
 one false = 0

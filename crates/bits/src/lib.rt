@@ -3,15 +3,18 @@
 // What a caller may rely on, and nothing else:
 // - `has_rule` tests one rule's bit, `add_rule` sets it. Of what it returns the contract says for every j whether bit j is set, and that no bit
 //   is lost, so that a mask which grows is a number which grows: a loop that adds rules until nothing changes ends.
+// - `apart` tells whether two sets have no rule in common.
 // - `count` is how many rules the set has, and `lowest` its lowest rule, 64 if it is empty.
 // - `low_half` and `high_half` split a mask into two 32-bit words, `from_halves` puts it together again: lent working numbers have 32 bits.
 //
 // specs/Mask says what these words mean of a number. proofs/Laws has the laws for callers: masks with the same bits are equal (`same-mask`),
-// a mask with the bits of a list of marks is that list's number (`is-mask-of`), 0 has no rule (`has-none`), and the halves of a mask give it back (`halves`).
+// a mask with the bits of a list of marks is that list's number (`is-mask-of`), 0 has no rule (`has-none`) and no other mask has none (`no-rule`), and the halves of a mask give it back (`halves`).
 
 ghost use mathlib.Core.Path.{_≡_};
+ghost use mathlib.Core.Bool.{true};
+ghost use mathlib.Core.Logic.{_↔_};
 ghost use Prim.Native.Nat.{ℕ, _+_, _*_, _/_, _%_, _^_, _<_};
-ghost use Rattle.bits.specs.Mask.{has, Added, howMany, least};
+ghost use Rattle.bits.specs.Mask.{has, Added, Apart, howMany, least};
 
 pub fn has_rule(mask: u64, rule: usize) -> bool
     requires { ⌜ rule < 64 ⌝ }
@@ -25,6 +28,13 @@ pub fn add_rule(mask: u64, rule: usize) -> u64
     ensures { λ r. ⌜ Added mask rule r ⌝ }
 {
     mask | (1u64 << rule)
+}
+
+// Whether no rule is in both sets.
+pub fn apart(a: u64, b: u64) -> bool
+    ensures { λ r. ⌜ (r ≡ true) ↔ Apart a b ⌝ }
+{
+    a & b == 0
 }
 
 // How many rules the set has.

@@ -2,7 +2,7 @@
 use Prim.Native.Nat.{ℕ, _<_}
 use lib.ListN.{length}
 use Rattle.meaning.specs.Grammar.{Node, rule, Grammar, root}
-use Rattle.meaning.specs.Report.{Starts, by-not, by-rep, by-choice, by-other, by-first, by-second, by-rule, Chain, here, on, LeftRecursive, Free}
+use Rattle.meaning.specs.Report.{Starts, by-not, by-rep, by-choice, by-other, by-first, by-second, by-rule, Chain, Leads, here, on, LeftRecursive, Free}
 use Rattle.meaning.specs.Report.{Child, to-first, to-second, to-one, to-other, to-denied, to-repeated, Reachable, start, used}
 
 module _ (g : Grammar) where
@@ -32,3 +32,7 @@ module _ (g : Grammar) where
   met-start by-first m = met-child m to-first
   met-start (by-second e) m = met-child m to-second
   met-start by-rule m = met-root (met-rule m)
+
+  pub met-leads : {p q : Node} → Leads g p q → Met p → Met q
+  met-leads here m = m
+  met-leads (on h k) m = met-start k (met-leads h m)

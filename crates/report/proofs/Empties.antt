@@ -29,7 +29,7 @@ row-empty x y = by (x .empty) refl
     by false e = rw e
 
 -- What is below a node is below the nodes after it.
-widen : (g : Grammar) (i n : ℕ) → i ≤ n → (p : Node) → Below g i p → Below g n p
+pub widen : (g : Grammar) (i n : ℕ) → i ≤ n → (p : Node) → Below g i p → Below g n p
 widen g i n h empty b = tt
 widen g i n h (range lo hi) b = tt
 widen g i n h (rule a) b = b

@@ -2,8 +2,10 @@ pub mod Words
 pub mod Sets
 pub mod Empties
 pub mod Recursion
+pub mod Reaching
 pub mod Tables
 pub mod Repeat
 pub mod Once
+pub mod Freely
 pub mod Computed
 pub mod Worked

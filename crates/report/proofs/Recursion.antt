@@ -1,4 +1,4 @@
--- Which rules are left-recursive: those from whose root the rules used at a node's start lead back to the same rule.
+-- Which rules are left-recursive: those from whose root the rules used at a node's start lead back to the same rule. And where they lead from rule 0.
 use mathlib.Core.Path.{_≡_, refl, sym, ap, _∙_}
 use mathlib.Core.Bool.{Bool, true, false, _&&_, _||_, or-true, or-false, and-eq-true-iff, false≢true}
 use mathlib.Core.Logic.{⊎-elim}
@@ -6,7 +6,7 @@ use mathlib.Mathlib.Data.Bool.Basic.{or-inl, or-inr}
 use Prim.Native.Nat.{ℕ, zero, suc, _^_, _≤_, _<_}
 use native.Mathlib.Omega.{arith}
 use borrow.Author.Tests.{ltb-true, lt-ltb, eqb-true, eq-eqb}
-use lib.Dec.{ltb}
+use lib.Dec.{eqb, ltb}
 use lib.ListN.{length}
 use Rattle.bits.specs.Mask.{has}
 use Rattle.bits.proofs.Digits.{has-or}
@@ -19,6 +19,7 @@ use Rattle.meaning.proofs.Through.{from-start, joins, all-chains}
 use Rattle.report.specs.declared.Facts.{Facts}
 use Rattle.report.specs.Pass.{inRow, oneOf, factsOf, Gathered, led, Settled}
 use Rattle.report.specs.Report.{LeftRules}
+use Rattle.report.specs.Lent.{AtStart, itself, StartRules}
 use Rattle.report.proofs.Sets.{has-only}
 use Rattle.report.proofs.Empties.{empty-sound, empty-found, inside}
 
@@ -41,7 +42,7 @@ module _ (g : Grammar) (closed : Closed g) (few-rules : length (g .roots) ≤ 64
   Use p b = (b < length (g .roots)) × Leads g p (rule b)
 
   before : {p q : Node} {b : ℕ} → Starts g p q → Use q b → Use p b
-  before k u = (u .0, first g k (u .1))
+  before k u = (u .0, first k (u .1))
 
   node-leads : (i : ℕ) → i ≤ length (g .nodes) → ((k : ℕ) → k < i → (b : ℕ) → has (f k .starts) b ≡ true → Use (node g k) b)
       → (p : Node) → Below g i p → (b : ℕ) → has (factsOf f (s .known) p .starts) b ≡ true → Use p b
@@ -85,10 +86,10 @@ module _ (g : Grammar) (closed : Closed g) (few-rules : length (g .roots) ≤ 64
     from-step a b e h = below-leads (suc (rootOf g a)) (rootOf g a) (omega arith) (closed .roots a h) b (sym (is-step a b h) ∙ e)
 
     link : (a c b : ℕ) → Reached a c → Reached c b → Reached a b
-    link a c b x y h = let u = x h in let v = y (u .0) in (v .0, then g (u .1) (first g by-rule (v .1)))
+    link a c b x y h = let u = x h in let v = y (u .0) in (v .0, then (u .1) (first by-rule (v .1)))
 
-    back-leads : (a : ℕ) → a < r → led step r a a ≡ true → LeftRecursive g a
-    back-leads a h e = round g a (all-chains (led step) turn Reached from-step link r a a e h .1)
+    chain-leads : (a b : ℕ) → led step r a b ≡ true → Reached a b
+    chain-leads = all-chains (led step) turn Reached from-step link r
 
     -- What is used is led to.
     starts-with : (a b : ℕ) → a < r → has (f (rootOf g a) .starts) b ≡ true → led step r a b ≡ true
@@ -129,11 +130,12 @@ module _ (g : Grammar) (closed : Closed g) (few-rules : length (g .roots) ≤ 64
       seen-all here seen = seen
       seen-all (on l k) seen = seen-next k (seen-all l seen)
 
-      leads-back : LeftRecursive g a → led step r a a ≡ true
+      leads-to : {b : ℕ} → Leads g (root g a) (rule b) → led step r a b ≡ true
       unfolding factsOf
-      leads-back d =
-          let from = child (rootOf g a) (closed .roots a a-there) (λ b e. starts-with a b a-there e) in
-          seen-next (d .last) (seen-all (d .chain) from) .starts a (has-only a a (omega arith) ∙ eq-eqb a a refl)
+      leads-to {b} l =
+          let seen = seen-all l (child (rootOf g a) (closed .roots a a-there) (λ b e. starts-with a b a-there e)) in
+          let there = seen .there in
+          seen .starts b (has-only b b (omega arith) ∙ eq-eqb b b refl)
 
     -- ---- The mask of the rules from which a chain leads back.
     pub left-found : (chain : ℕ → ℕ → Bool) → ((a b : ℕ) → a < r → chain a b ≡ led step r a b)
@@ -144,8 +146,23 @@ module _ (g : Grammar) (closed : Closed g) (few-rules : length (g .roots) ≤ 64
       sound = λ a e.
           let w = and-eq-true-iff (ltb a r) (chain a a) .0 (sym (gathered a ∙ ap (λ x. x || ltb a r && chain a a) (has-none a)) ∙ e) in
           let h = ltb-true a r (w .0) in
-          (h, back-leads a h (sym (is-chain a a h) ∙ w .1));
+          (h, round g a (chain-leads a a (sym (is-chain a a h) ∙ w .1) h .1));
       complete = λ a h d.
-          let back : chain a a ≡ true = is-chain a a h ∙ leads-back a h d in
+          let back : chain a a ≡ true = is-chain a a h ∙ leads-to a h (on (d .chain) (d .last)) in
           gathered a ∙ rw (lt-ltb a r h, back) (or-true (has 0 a));
     }
+
+    -- ---- The mask of the rules at the start of rule 0: its row, and itself.
+    pub start-found : (chain : ℕ → ℕ → Bool) → ((a b : ℕ) → a < r → chain a b ≡ led step r a b) → 0 < r
+        → (found : ℕ) → found < 2 ^ 64 → ((b : ℕ) → has found b ≡ (chain 0 b || eqb b 0)) → StartRules g found
+    start-found chain is-chain rules found fits bits = record {
+      fits = fits;
+      sound = λ b e.
+          ⊎-elim (λ u. let w = chain-leads 0 b (sym (is-chain 0 b rules) ∙ u) rules in (w .0, AtStart.led (w .1)))
+          (λ u. rw (eqb-true b 0 u) (rules, itself)) (or-split (chain 0 b) (eqb b 0) (sym (bits b) ∙ e));
+      complete = λ b h d. bits b ∙ at-start b d;
+    }
+      where
+        at-start : (b : ℕ) → AtStart g b → (chain 0 b || eqb b 0) ≡ true
+        at-start b itself = or-true (chain 0 0)
+        at-start b (AtStart.led l) = or-inl (chain 0 b) (eqb b 0) (is-chain 0 b rules ∙ leads-to 0 rules l)

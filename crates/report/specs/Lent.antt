@@ -1,13 +1,36 @@
 -- What is promised to a caller who asks whether a table is free and lends working numbers.
 use mathlib.Core.Path.{_≡_}
-use mathlib.Core.Bool.{Bool}
+use mathlib.Core.Bool.{Bool, true, cond}
 use mathlib.Core.List.{List}
-use Prim.Native.Nat.{ℕ, _*_, _≤_}
+use mathlib.Core.Logic.{_↔_}
+use Prim.Native.Nat.{ℕ, _*_, _<_, _≤_}
 use lib.ListN.{length, getD}
+use Rattle.meaning.specs.Grammar.{rule, Grammar, root}
+use Rattle.meaning.specs.Report.{Leads, LeftRecursive}
 use Rattle.meaning.specs.Decide.{isFree}
 use Rattle.sheet.specs.Table.{nodesOf, grammarOf}
-use Rattle.report.specs.Report.{EmptyRules}
-use Rattle.report.specs.Pass.{passedAll}
+use Rattle.report.specs.Report.{MaskOf, EmptyRules}
+use Rattle.report.specs.Pass.{passedAll, usedAll}
+
+-- Rule 0, and the rules to a use of which a chain of starts leads from its root.
+pub data AtStart (g : Grammar) : ℕ → Type 0 where
+  itself : AtStart g 0
+  led : {a : ℕ} → Leads g (root g 0) (rule a) → AtStart g a
+
+abbrev pub StartRules : Grammar → ℕ → Type 0
+StartRules g = MaskOf (length (g .roots)) (AtStart g)
+
+-- The masks alone tell whether the grammar is free: no rule is left-recursive, or one at the start of rule 0 is.
+pub data Told (g : Grammar) : Type 0 where
+  by-none : ((a : ℕ) → a < length (g .roots) → LeftRecursive g a → ⊥) → Told g
+  by-one : ¬ ((a : ℕ) → a < length (g .roots) → AtStart g a → LeftRecursive g a → ⊥) → Told g
+
+-- Whether the table is free, and the working numbers after it: where the masks don't tell, one pass more has put down the rules that each node uses.
+pub record Judged (t : List ℕ) (answer : Bool) (before after : List ℕ) : Type 0 where
+  pub free : answer ≡ isFree (grammarOf t)
+  pub told : Bool
+  pub tells : (told ≡ true) ↔ Told (grammarOf t)
+  pub written : after ≡ cond told before (usedAll t before)
 
 -- Of the working numbers three for each node of the table are used, and say what the last pass found. The others are as they were.
 pub record Used (t : List ℕ) (before after : List ℕ) : Type 0 where
@@ -15,9 +38,11 @@ pub record Used (t : List ℕ) (before after : List ℕ) : Type 0 where
   pub rest : (i : ℕ) → 3 * nodesOf t ≤ i → getD after i 0 ≡ getD before i 0
   pub known : ℕ
   pub empty-rules : EmptyRules (grammarOf t) known
-  pub written : after ≡ passedAll t known before
+  pub told : Bool
+  pub tells : (told ≡ true) ↔ Told (grammarOf t)
+  pub written : after ≡ cond told (passedAll t known before) (usedAll t before)
 
--- 01: "A grammar is free if no rule in its table is left-recursive". The answer, and the working numbers after it.
+-- 02, W-202: "Free shall mean that no rule reachable from rule 0 [..] is left-recursive". The answer, and the working numbers after it.
 pub record Answered (t : List ℕ) (answer : Bool) (before after : List ℕ) : Type 0 where
   pub free : answer ≡ isFree (grammarOf t)
   pub used : Used t before after

@@ -38,6 +38,16 @@ factsOf f known (choice a b) = oneOf (f a) (f b)
 factsOf f known (not a) = facts (f a .starts) true
 factsOf f known (rep a) = facts (f a .starts) true
 
+-- The rules that a node uses anywhere, by those of its children: every node is taken as one that may be empty, so that each child stands at its start.
+unfoldable pub usedIn : (ℕ → Facts) → Node → Facts
+usedIn f empty = facts 0 true
+usedIn f (range lo hi) = facts 0 true
+usedIn f (rule a) = facts (only a) true
+usedIn f (seq a b) = oneOf (f a) (f b)
+usedIn f (choice a b) = oneOf (f a) (f b)
+usedIn f (not a) = f a
+usedIn f (rep a) = f a
+
 -- ---- Three working numbers a node: the lower and the higher half of the rules at its start, and 1 where it may be empty.
 unfoldable pub factsAt : List ℕ → ℕ → Facts
 factsAt w i = facts (getD w (3 * i + 1) 0 * 2 ^ 32 + getD w (3 * i) 0) (eqb (getD w (3 * i + 2) 0) 1)
@@ -48,14 +58,18 @@ threeOf x = x .starts % 2 ^ 32 ∷ x .starts / 2 ^ 32 ∷ one (x .empty) ∷ []
 unfoldable pub put : List ℕ → ℕ → Facts → List ℕ
 put w i x = sets w (3 * i) (threeOf x)
 
--- The working numbers after a pass over the first nodes.
-unfoldable pub passed : Grammar → (known : ℕ) → List ℕ → ℕ → List ℕ
-passed g known w zero = w
-passed g known w (suc i) = let v = passed g known w i in put v i (factsOf (factsAt v) known (node g i))
+-- The working numbers after a pass over the first nodes, by what is known of a node from its children.
+unfoldable pub passed : Grammar → (of : (ℕ → Facts) → Node → Facts) → List ℕ → ℕ → List ℕ
+passed g of w zero = w
+passed g of w (suc i) = let v = passed g of w i in put v i (of (factsAt v) (node g i))
 
 -- The working numbers after a pass over a table.
 abbrev pub passedAll : (table : List ℕ) (known : ℕ) → List ℕ → List ℕ
-passedAll t known w = passed (grammarOf t) known w (nodesOf t)
+passedAll t known w = passed (grammarOf t) (λ f. factsOf f known) w (nodesOf t)
+
+-- The same after a pass that puts down the rules used anywhere.
+abbrev pub usedAll : (table : List ℕ) → List ℕ → List ℕ
+usedAll t w = passed (grammarOf t) usedIn w (nodesOf t)
 
 -- What they say of the root of a rule.
 abbrev pub rootFacts : (table : List ℕ) → List ℕ → ℕ → Facts
@@ -66,6 +80,10 @@ pub record Settled (g : Grammar) (f : ℕ → Facts) : Type 0 where
   pub known : ℕ
   pub empty-rules : EmptyRules g known
   pub settled : (i : ℕ) → i < length (g .nodes) → f i ≡ factsOf f known (node g i)
+
+-- Of each node the rules that it uses anywhere, as its children's numbers say.
+abbrev pub UsesSettled : Grammar → (ℕ → Facts) → Type 0
+UsesSettled g f = (i : ℕ) → i < length (g .nodes) → f i ≡ usedIn f (node g i)
 
 -- ---- Sets of rules.
 -- To the set base are added those of the first k rules that pass a test.
@@ -84,3 +102,8 @@ widened row k set = cond (has set k) (bitOr set row) set
 unfoldable pub led : (step : ℕ → ℕ → Bool) → (k a b : ℕ) → Bool
 led step zero a b = step a b
 led step (suc k) a b = led step k a b || led step k a k && led step k k b
+
+-- To a set are added, for each of the first k rules that it has by then, the rules of that one's row.
+unfoldable pub spread : (row : ℕ → ℕ) → (set k : ℕ) → ℕ
+spread row set zero = set
+spread row set (suc k) = widened (row k) k (spread row set k)

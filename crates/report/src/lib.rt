@@ -1,4 +1,4 @@
-// The report on a table: which rules may be empty, which are left-recursive, and whether the sheet is free (document 01, "The report").
+// The report on a table: which rules may be empty, which are left-recursive, and whether the sheet is free (document 01, "The report", and 02's W-202).
 //
 // `report` takes any bytes, asks nothing of its caller and writes nowhere. Of a table that the check refuses it gives the check's code and place.
 // `is_free` asks for an accepted table and for working numbers, as many as three for each node that a table may have. Of those it uses three for each
@@ -10,6 +10,8 @@
 // - Then the rules whose root turned out to be empty are known too. Passes are repeated as long as there are new ones: the mask grows each time.
 // - The last pass gives for each rule the rules at the start of its root. These sets are closed by turns through each rule. A rule that is in its own
 //   set is left-recursive.
+// - A sheet is free if none of them is reachable from rule 0. Where there is none, or where rule 0 leads to one at its start, nothing more is worked out.
+//   Else one more pass puts down of each node the rules that it uses anywhere; from rule 0 on, the rules that a reachable rule's root uses are reachable.
 //
 // What a reader must believe: specs/Report, with meaning's Report behind it, and specs/Lent. specs/Pass is what the other functions' contracts cite.
 // What is proved of it:
@@ -22,6 +24,8 @@
 //   proofs/Sets        rules gathered one by one, and one turn of the closing
 //   proofs/Tables      the grammar's nodes and roots, by the numbers that the code reads
 //   proofs/Recursion   what stands at a node's start is led to, and what is led to is in the closed sets
+//   proofs/Reaching    what a node uses anywhere, and that the rounds from rule 0 on find the reachable rules
+//   proofs/Freely      a sheet is free exactly if no left-recursive rule is found to be reachable
 
 ghost use mathlib.Core.Path.{_≡_};
 ghost use mathlib.Core.Bool.{true};
@@ -31,15 +35,15 @@ ghost use Rattle.bits.specs.Mask.{has, one};
 ghost use Rattle.meaning.specs.Grammar.{node};
 ghost use Rattle.sheet.specs.Table.{nodesOf, mostNodes, mostRules, grammarOf};
 ghost use Rattle.sheet.specs.Check.{Accepted};
-ghost use Rattle.report.specs.Pass.{facts, only, inRow, oneOf, factsOf, factsAt, put, passedAll, rootFacts, Settled, Gathered, inSet, widened, led};
-ghost use Rattle.report.specs.Report.{EmptyRules, LeftRules, Reported};
-ghost use Rattle.report.specs.Lent.{Used, Answered};
+ghost use Rattle.report.specs.Pass.{facts, only, inRow, oneOf, factsOf, usedIn, factsAt, put, passedAll, usedAll, rootFacts, Settled, UsesSettled, Gathered, inSet, widened, led, spread};
+ghost use Rattle.report.specs.Report.{EmptyRules, LeftRules, ReachableRules, Reported};
+ghost use Rattle.report.specs.Lent.{StartRules, Judged, Answered};
 
 // How many working numbers `is_free` asks for.
 pub const SCRATCH: usize = 3 * sheet::MOST_NODES;
 
 // What the report gives: 01's code and place, the rules whose root may be empty and those that are left-recursive (bit i for rule i),
-// how many of the second there are, and the lowest of them, 64 if there is none.
+// how many of the second there are, and the lowest of them, 64 if there is none; and whether no rule that rule 0 reaches is left-recursive.
 pub struct Findings {
     pub code: usize,
     pub place: usize,
@@ -47,12 +51,20 @@ pub struct Findings {
     pub left_recursive: u64,
     pub how_many: u32,
     pub lowest: u32,
+    pub free: bool,
 }
 
-// The rules whose root may be empty, and those that are left-recursive.
-struct Both {
+// The rules whose root may be empty, those that are left-recursive, and those that stand at the start of rule 0, itself among them.
+struct RuleSets {
     may_be_empty: u64,
     left_recursive: u64,
+    at_start: u64,
+}
+
+// The rules to which chains of starts lead: from themselves, and from rule 0.
+struct Led {
+    left_recursive: u64,
+    at_start: u64,
 }
 
 // What is known of a node: the rules that it uses at its start, no rule's root gone into, and whether it may be empty.
@@ -279,29 +291,125 @@ fn led_back(to: &[u64; 64], r: usize) -> u64
     found
 }
 
-// The left-recursive rules, by the last pass.
-fn left_rules(table: &[u8], scratch: &[u32]) -> u64
+// The left-recursive rules and those at the start of rule 0, by the last pass.
+fn chains(table: &[u8], scratch: &[u32]) -> Led
     requires { ⌜ Accepted (now table) × (3 * mostNodes ≤ length (now scratch)) × Settled (grammarOf (now table)) (factsAt (now scratch)) ⌝ }
-    ensures { λ found. ⌜ LeftRules (grammarOf (now (table .entry))) found ⌝ }
+    ensures { λ x. ⌜ LeftRules (grammarOf (now (table .entry))) (x .«left_recursive») × StartRules (grammarOf (now (table .entry))) (x .«at_start») ⌝ }
 {
     let r = sheet::rule_count(table);
     let mut to = [0u64; 64];
     steps(table, scratch, &mut to);
     close(&mut to, r);
-    led_back(&to, r)
+    let left_recursive = led_back(&to, r);
+    Led {
+        left_recursive,
+        at_start: bits::add_rule(to[0], 0),
+    }
 }
 
-// Both masks of an accepted table.
-fn masks(table: &[u8], scratch: &mut [u32]) -> Both
+// All masks of an accepted table.
+fn masks(table: &[u8], scratch: &mut [u32]) -> RuleSets
     requires { ⌜ Accepted (now table) × (3 * mostNodes ≤ length (now scratch)) ⌝ }
-    ensures { λ x. ⌜ EmptyRules (grammarOf (now (table .entry))) (x .«may_be_empty») × LeftRules (grammarOf (now (table .entry))) (x .«left_recursive») × Used (now (table .entry)) (now (scratch .entry)) (now (scratch .exit)) ⌝ }
+    ensures { λ x. ⌜ EmptyRules (grammarOf (now (table .entry))) (x .«may_be_empty») × LeftRules (grammarOf (now (table .entry))) (x .«left_recursive») × StartRules (grammarOf (now (table .entry))) (x .«at_start») × (now (scratch .exit) ≡ passedAll (now (table .entry)) (x .«may_be_empty») (now (scratch .entry))) ⌝ }
 {
     let may_be_empty = empty_rules(table, scratch);
-    let left_recursive = left_rules(table, scratch);
-    Both {
+    let found = chains(table, scratch);
+    RuleSets {
         may_be_empty,
-        left_recursive,
+        left_recursive: found.left_recursive,
+        at_start: found.at_start,
     }
+}
+
+// The rules that node i uses anywhere, by the working numbers of its children: those at its start if every node could be empty.
+fn uses_of(table: &[u8], scratch: &[u32], i: usize) -> Facts
+    requires { ⌜ Accepted (now table) × (i < nodesOf (now table)) × (3 * mostNodes ≤ length (now scratch)) ⌝ }
+    ensures { λ x. ⌜ x ≡ usedIn (factsAt (now (scratch .entry))) (node (grammarOf (now (table .entry))) i) ⌝ }
+{
+    let a = sheet::field_a(table, i);
+    let b = sheet::field_b(table, i);
+    let kind = sheet::kind(table, i);
+    match kind {
+        0 => Facts {
+            starts: 0,
+            empty: true,
+        },
+        1 => Facts {
+            starts: 0,
+            empty: true,
+        },
+        2 => around(of_rule(0, a)),
+        3 => one_of(facts_at(scratch, a), facts_at(scratch, b)),
+        4 => one_of(facts_at(scratch, a), facts_at(scratch, b)),
+        5 => facts_at(scratch, a),
+        6 => facts_at(scratch, a),
+        _ => Facts {
+            starts: 0,
+            empty: true,
+        },
+    }
+}
+
+// One pass over the nodes: the rules that each uses anywhere.
+fn pass_uses(table: &[u8], scratch: &mut [u32])
+    requires { ⌜ Accepted (now table) × (3 * mostNodes ≤ length (now scratch)) ⌝ }
+    ensures { λ _. ⌜ now (scratch .exit) ≡ usedAll (now (table .entry)) (now (scratch .entry)) ⌝ }
+{
+    let n = sheet::node_count(table);
+    let mut i: usize = 0;
+    while i < n {
+        let x = uses_of(table, scratch, i);
+        put(scratch, i, x);
+        i += 1;
+    }
+}
+
+// One round: to the rules that are reached, those that the root of each uses.
+fn round(table: &[u8], scratch: &[u32], reached: u64) -> u64
+    requires { ⌜ Accepted (now table) × (3 * mostNodes ≤ length (now scratch)) ⌝ }
+    ensures { λ more. ⌜ more ≡ spread (λ a. rootFacts (now (table .entry)) (now (scratch .entry)) a .starts) reached (length (grammarOf (now (table .entry)) .roots)) ⌝ }
+{
+    let r = sheet::rule_count(table);
+    let mut more = reached;
+    let mut a: usize = 0;
+    while a < r {
+        let x = facts_at(scratch, sheet::root(table, a));
+        more = widened(more, x.starts, a);
+        a += 1;
+    }
+    more
+}
+
+// The reachable rules, by the last pass and by some of them, rule 0 among them: rounds as long as each finds one more.
+fn reachable_rules(table: &[u8], scratch: &[u32], some: u64) -> u64
+    requires { ⌜ Accepted (now table) × (3 * mostNodes ≤ length (now scratch)) × UsesSettled (grammarOf (now table)) (factsAt (now scratch)) × StartRules (grammarOf (now table)) some ⌝ }
+    ensures { λ found. ⌜ ReachableRules (grammarOf (now (table .entry))) found ⌝ }
+{
+    let mut reached = some;
+    let found = loop {
+        let more = round(table, scratch, reached);
+        if more == reached {
+            break reached;
+        }
+        reached = more;
+    };
+    found
+}
+
+// Whether no left-recursive rule is reachable. Where there is none, or one stands at the start of rule 0, the working numbers stay.
+fn none_reached(table: &[u8], scratch: &mut [u32], left_recursive: u64, at_start: u64) -> bool
+    requires { ⌜ Accepted (now table) × (3 * mostNodes ≤ length (now scratch)) × LeftRules (grammarOf (now table)) «left_recursive» × StartRules (grammarOf (now table)) «at_start» ⌝ }
+    ensures { λ answer. ⌜ Judged (now (table .entry)) answer (now (scratch .entry)) (now (scratch .exit)) ⌝ }
+{
+    if left_recursive == 0 {
+        return true;
+    }
+    if !bits::apart(at_start, left_recursive) {
+        return false;
+    }
+    pass_uses(table, scratch);
+    let reached = reachable_rules(table, scratch, at_start);
+    bits::apart(reached, left_recursive)
 }
 
 // 01's report on any bytes.
@@ -317,10 +425,12 @@ pub fn report(table: &[u8]) -> Findings
             left_recursive: 0,
             how_many: 0,
             lowest: 64,
+            free: false,
         };
     }
     let mut scratch = [0u32; SCRATCH];
     let found = masks(table, &mut scratch);
+    let free = none_reached(table, &mut scratch, found.left_recursive, found.at_start);
     Findings {
         code: v.code,
         place: v.place,
@@ -328,14 +438,15 @@ pub fn report(table: &[u8]) -> Findings
         left_recursive: found.left_recursive,
         how_many: bits::count(found.left_recursive),
         lowest: bits::lowest(found.left_recursive),
+        free,
     }
 }
 
-// Whether no rule of an accepted table is left-recursive, for a caller who lends working numbers.
+// Whether no reachable rule of an accepted table is left-recursive, for a caller who lends working numbers.
 pub fn is_free(table: &[u8], scratch: &mut [u32]) -> bool
     requires { ⌜ Accepted (now table) × (3 * mostNodes ≤ length (now scratch)) ⌝ }
     ensures { λ answer. ⌜ Answered (now (table .entry)) answer (now (scratch .entry)) (now (scratch .exit)) ⌝ }
 {
     let found = masks(table, scratch);
-    found.left_recursive == 0
+    none_reached(table, scratch, found.left_recursive, found.at_start)
 }

@@ -1,21 +1,29 @@
--- A table is free exactly if no left-recursive rule is found.
+-- The masks are found, then whether a left-recursive rule is reachable.
+use denote.Ref.{now}
+use native.Mathlib.Omega.{arith}
 use borrow.Author.Needs.{needs}
-use Rattle.sheet.proofs.Accepting.{closed}
-use Rattle.report.proofs.Once.{free-by-mask}
+use Rattle.report.proofs.Repeat.{used}
 use Rattle.report.proofs.is_free.Statement.{statement}
 use Rattle.report.proofs.is_free.Tie as tie
 
 masks-requires : tie.Need-masks-requires
 masks-requires c κs = search needs
 
+none-reached-requires : tie.Need-none-reached-requires
+none-reached-requires c κs =
+    let p = c .before .before .before .before .before .before .before .pre in
+    let m = c .before .before .before .masks in
+    (p .0, omega (arith, m .kept .1 .0), m .ensures .1, m .ensures .2)
+
 same-length : tie.Need-same-length
 same-length c = search needs
 
 returns : tie.Need-returns
 returns c =
-    let accepted = c .before .before .before .before .before .before .before .pre .0 in
-    let found = c .before .before .before .masks .ensures in
-    record { free = free-by-mask _ (closed _ accepted) _ (found .1); used = found .2 }
+    let s = c .before .before .before .before .before .before .before .before .before .before in
+    let m = c .before .before .before .before .before .before .masks .ensures in
+    let j = c .before .before .none-reached .ensures in
+    record { free = j .free; used = used _ (s .pre .0) (now (s .args .scratch)) _ (s .pre .1) _ (m .3) _ j (m .0) }
 
 pub is-free-spec : {M : Type 1} → statement M
-is-free-spec = tie.close (tie.spec masks-requires same-length returns)
+is-free-spec = tie.close (tie.spec masks-requires none-reached-requires same-length returns)

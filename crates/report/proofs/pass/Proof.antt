@@ -6,13 +6,13 @@ use native.Mathlib.Omega.{arith}
 use borrow.Author.Needs.{needs}
 use lib.ListN.{length}
 use Rattle.sheet.specs.Table.{nodesOf, grammarOf}
-use Rattle.report.specs.Pass.{passed}
+use Rattle.report.specs.Pass.{factsOf, passed}
 use Rattle.report.proofs.Words.{passed-next}
 use Rattle.report.proofs.pass.Statement.{statement}
 use Rattle.report.proofs.pass.Tie as tie
 
 abbrev Inv-loop : tie.InvT-loop
-Inv-loop table scratch₀ known n i₀ scratch i = (i ≤ n) × (length scratch ≡ length scratch₀) × (scratch ≡ passed (grammarOf table) known scratch₀ i)
+Inv-loop table scratch₀ known n i₀ scratch i = (i ≤ n) × (length scratch ≡ length scratch₀) × (scratch ≡ passed (grammarOf table) (λ f. factsOf f known) scratch₀ i)
 
 abbrev μ-loop : tie.MeasureT-loop
 μ-loop table scratch₀ known n i₀ scratch i = n - i
