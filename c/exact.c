@@ -34,6 +34,30 @@ static const uint8_t SHEET_B[] = {
     4, 0, 3, 0, 0,        /* 4 choice 3 0 */
     1, 0, 48, 0, 57,      /* 5 a digit */
 };
+static const uint8_t B_UNUSED[] = {
+    1, 0, 48, 0, 7, 0, 3, /* B with a rule that is never used: version, length, seven nodes, three rules */
+    0, 4, 0, 5, 0, 6,     /* their roots */
+    2, 0, 1, 0, 0,        /* 0 rule 1 */
+    1, 0, 44, 0, 44,      /* 1 ',' */
+    3, 0, 1, 0, 0,        /* 2 sequence 1 0 */
+    3, 0, 0, 0, 2,        /* 3 sequence 0 2 */
+    4, 0, 3, 0, 0,        /* 4 choice 3 0 */
+    1, 0, 48, 0, 57,      /* 5 a digit */
+    2, 0, 2, 0, 0,        /* 6 rule 2 */
+};
+static const uint8_t B_BEHIND_NOT[] = {
+    1, 0, 58, 0, 9, 0, 3, /* the same with D <- !R [0-9]: version, length, nine nodes, three rules */
+    0, 4, 0, 8, 0, 6,     /* their roots */
+    2, 0, 1, 0, 0,        /* 0 rule 1 */
+    1, 0, 44, 0, 44,      /* 1 ',' */
+    3, 0, 1, 0, 0,        /* 2 sequence 1 0 */
+    3, 0, 0, 0, 2,        /* 3 sequence 0 2 */
+    4, 0, 3, 0, 0,        /* 4 choice 3 0 */
+    1, 0, 48, 0, 57,      /* 5 a digit */
+    2, 0, 2, 0, 0,        /* 6 rule 2 */
+    5, 0, 6, 0, 0,        /* 7 not 6 */
+    3, 0, 7, 0, 5,        /* 8 sequence 7 5 */
+};
 static const uint8_t NOT_ITSELF[] = {
     1, 0, 29, 0, 4, 0, 1, /* S <- !S 'a': version, length, four nodes, one rule */
     0, 3,                 /* its root */
@@ -173,9 +197,9 @@ static void check(const uint8_t *table, size_t length, uint64_t code, uint64_t p
 }
 
 static void report(const uint8_t *table, size_t length, uint64_t code, uint64_t place, uint64_t may_be_empty,
-                   uint64_t left_recursive, uint64_t how_many, uint64_t lowest)
+                   uint64_t left_recursive, uint64_t how_many, uint64_t lowest, uint64_t is_free)
 {
-    uint64_t due[] = {code, place, may_be_empty, left_recursive, how_many, lowest};
+    uint64_t due[] = {code, place, may_be_empty, left_recursive, how_many, lowest, is_free};
     ask(kos_report, table, length, due, KOS_REPORT_NUMBERS);
 }
 
@@ -258,7 +282,7 @@ static void worked_lines(void)
 {
     TAKE(SHEET_A);
     check(sheet, sheet_length, KOS_READ, 0);
-    report(sheet, sheet_length, KOS_READ, 0, 0, 1, 1, 0);
+    report(sheet, sheet_length, KOS_READ, 0, 0, 1, 1, 0, 0);
     for (int whole = 0; whole <= 1; whole++) {
         reads("A on 7+2", "7+2", whole, 2500, DUE(KOS_READ, 0, 3, 22, 4), A_TWO);
         reads("A on 7+2, allowance 22", "7+2", whole, 22, DUE(KOS_READ, 0, 3, 22, 4), A_TWO);
@@ -272,7 +296,7 @@ static void worked_lines(void)
 
     TAKE(SHEET_B);
     check(sheet, sheet_length, KOS_READ, 0);
-    report(sheet, sheet_length, KOS_READ, 0, 0, 0, 0, 64);
+    report(sheet, sheet_length, KOS_READ, 0, 0, 0, 0, 64, 1);
     for (int whole = 0; whole <= 1; whole++) {
         reads("B on 1,5", "1,5", whole, 49, DUE(KOS_READ, 0, 3, 8, 3), B_PAIR);
         reads("B on 1", "1", whole, 2500, DUE(KOS_READ, 0, 1, 7, 2), B_ONE);
@@ -283,8 +307,19 @@ static void worked_lines(void)
     TAKE(turned);
     reads("B turned round on 1,5", "1,5", 1, 2500, DUE(KOS_REST, 1, 1, 3, 0), NULL);
 
+    TAKE(B_UNUSED);
+    report(sheet, sheet_length, KOS_READ, 0, 0, 4, 1, 2, 1);
+    for (int whole = 0; whole <= 1; whole++) {
+        reads("B with a rule unused on 1,5", "1,5", whole, 8, DUE(KOS_READ, 0, 3, 8, 3), B_PAIR);
+        reads("B with a rule unused on 1", "1", whole, 2500, DUE(KOS_READ, 0, 1, 7, 2), B_ONE);
+    }
+    TAKE(B_BEHIND_NOT);
+    report(sheet, sheet_length, KOS_READ, 0, 0, 4, 1, 2, 0);
+    reads("B with rule 2 behind a not on 1,5", "1,5", 1, 2500, DUE(KOS_READ, 0, 3, 52, 3), B_PAIR);
+    reads("B with rule 2 behind a not on 1", "1", 1, 2500, DUE(KOS_READ, 0, 1, 52, 2), B_ONE);
+
     TAKE(NOT_ITSELF);
-    report(sheet, sheet_length, KOS_READ, 0, 0, 1, 1, 0);
+    report(sheet, sheet_length, KOS_READ, 0, 0, 1, 1, 0, 0);
     reads("S <- !S 'a' on a", "a", 1, 2500, DUE(KOS_READ, 0, 1, 7, 1), NOT_ONE);
 }
 
@@ -316,7 +351,7 @@ static void doubling_rules(void)
     static uint8_t stored[2560] = {1, 10, 0, 1, 255};
     put_doubled(stored + 5, 0, 8);
     take_doubling(9);
-    report(sheet, sheet_length, KOS_READ, 0, 511, 0, 0, 64);
+    report(sheet, sheet_length, KOS_READ, 0, 511, 0, 0, 64, 1);
     reads("nine rules that double", "", 1, 2500, DUE(KOS_READ, 0, 0, 25, 511), stored);
     take_doubling(10);
     reads("ten rules that double", "", 1, 2500, DUE(KOS_RECORDS, 0, 0, 28, 1001), NULL);
@@ -360,7 +395,7 @@ static void refused(const char *name, const uint8_t *table, size_t length, uint6
     const uint64_t *due = DUE(code, place, 0, 0, 0);
     now = name;
     check(table, length, code, place);
-    report(table, length, code, place, 0, 0, 0, 64);
+    report(table, length, code, place, 0, 0, 0, 64, 0);
     take(table, length);
     reads(name, "7+2", 0, 22, due, NULL);
     reads(name, "7+2", 1, 22, due, NULL);

@@ -119,18 +119,26 @@ static void measure_chain(const struct chain *chain)
     measure(chain->name, call_read, chain->code);
 }
 
-/* With a rule that is never used and begins with itself, nothing is kept. */
+/* An 'a'. Where nothing shall be kept, or else a rule that begins with itself: this one, the last. */
+static size_t byte_or_rule(int is_free, size_t last)
+{
+    size_t byte = add_node(&table, RANGE, 'a', 'a');
+    return is_free ? byte : add_node(&table, CHOICE, byte, add_node(&table, RULE, last, 0));
+}
+
 static void end(int is_free)
 {
     if (!is_free) add_root(&table, add_node(&table, RULE, table.rule_count, 0));
     finish(&table);
+    call_report();
+    must(answer[KOS_AT_FREE] == (uint64_t)is_free, "not as free as is meant");
 }
 
 /* T <- 'a' T / empty, three visits deeper with each byte. */
 static void right_recursion(int is_free)
 {
     begin(KOS_MOST_LINE);
-    size_t byte = add_node(&table, RANGE, 'a', 'a'), use = add_node(&table, RULE, 0, 0);
+    size_t byte = byte_or_rule(is_free, 1), use = add_node(&table, RULE, 0, 0);
     size_t longer = add_node(&table, SEQUENCE, byte, use);
     add_root(&table, add_node(&table, CHOICE, longer, add_node(&table, EMPTY, 0, 0)));
     end(is_free);
@@ -142,7 +150,7 @@ static void ring(int is_free)
 {
     begin(KOS_MOST_LINE);
     for (size_t rule = 1; rule < 62; rule++) add_root(&table, add_node(&table, RULE, rule, 0));
-    size_t byte = add_node(&table, RANGE, 'a', 'a'), first = add_node(&table, RULE, 0, 0);
+    size_t byte = byte_or_rule(is_free, 62), first = add_node(&table, RULE, 0, 0);
     add_root(&table, add_node(&table, SEQUENCE, byte, first));
     end(is_free);
     measure(is_free ? "uses to 512, free" : "uses to 512, all live", call_read, KOS_DEEP);
@@ -200,6 +208,22 @@ static void full_report(void)
     must(answer[KOS_AT_HOW_MANY] == KOS_MOST_RULES, "not all rules left-recursive");
 }
 
+/* 64 rules of 8 nodes, each with the next one behind a byte, and the last with itself: rule 0 reaches them all. */
+static void full_reach(void)
+{
+    begin(0);
+    for (size_t rule = 0; rule < KOS_MOST_RULES; rule++) {
+        int is_last = rule == KOS_MOST_RULES - 1;
+        size_t use = add_node(&table, RULE, is_last ? rule : rule + 1, 0), byte = add_node(&table, RANGE, 'a', 'a');
+        size_t top = is_last ? use : add_node(&table, SEQUENCE, byte, use);
+        while (table.node_count < 8 * (rule + 1)) top = add_node(&table, CHOICE, byte, top);
+        add_root(&table, top);
+    }
+    finish(&table);
+    measure("the report on a full table, by what rule 0 reaches", call_report, KOS_READ);
+    must(answer[KOS_AT_HOW_MANY] == 1 && answer[KOS_AT_FREE] == 0, "not the last rule reached");
+}
+
 int main(void)
 {
     printf("   bytes  of stack\n");
@@ -211,6 +235,7 @@ int main(void)
     nested_records();
     records_in_a_row();
     full_report();
+    full_reach();
     printf("%8zu  at most\n", deepest);
 #ifdef __x86_64__
     must(deepest <= KOS_STACK, "more than KOS_STACK of koskorbelu.h");

@@ -55,7 +55,7 @@ enum kos_code {
 
 /* Numbers in an answer of kos_check, kos_report and the two readings. */
 #define KOS_CHECK_NUMBERS 2
-#define KOS_REPORT_NUMBERS 6
+#define KOS_REPORT_NUMBERS 7
 #define KOS_READ_NUMBERS 5
 
 /* Where they stand. Every answer begins with code and place. */
@@ -67,6 +67,7 @@ enum kos_at {
     KOS_AT_LEFT_RECURSIVE = 3,
     KOS_AT_HOW_MANY = 4,
     KOS_AT_LOWEST = 5,
+    KOS_AT_FREE = 6,
     /* a reading */
     KOS_AT_MATCHED = 2,
     KOS_AT_VISITS = 3,
@@ -104,8 +105,9 @@ void kos_check(const uint8_t *table, size_t table_length, uint64_t answer[KOS_CH
  *
  * answer: code (READ or SHORT to FIELD), place, the mask of rules whose root
  * may be empty (bit i for rule i), the mask of left-recursive rules, how many
- * bits are set in it, the lowest of them (64 if none). On a refusal both masks
- * and the number are 0 and the lowest is 64. Nothing else is written.
+ * bits are set in it, the lowest of them (64 if none), free (1 or 0; 1 if no
+ * rule that rule 0 can reach is left-recursive). On a refusal both masks, the
+ * number and free are 0 and the lowest is 64. Nothing else is written.
  */
 void kos_report(const uint8_t *table, size_t table_length, uint64_t answer[KOS_REPORT_NUMBERS]);
 

@@ -1,4 +1,4 @@
-//! Times each reader on a thousand lines of three sheets, by the visit on lines
+//! Times each reader on a thousand lines of four sheets, by the visit on lines
 //! of up to 255 bytes and with up to 409 uses live at once, and its report on
 //! small and full tables.
 //!
@@ -132,14 +132,66 @@ fn main() {
     }
 }
 
-/// Sheets A and B, and two tables of 512 nodes and 64 rules.
-fn report_tables() -> [(&'static str, Vec<u8>); 4] {
+/// Small and full ones; with the last three it matters what rule 0 reaches.
+fn report_tables() -> [(&'static str, Vec<u8>); 7] {
     [
         ("sheet A", sheet_a().bytes()),
         ("sheet B", sheet_b().bytes()),
         ("full, none may be empty", full(false).bytes()),
         ("full, all may be empty", full(true).bytes()),
+        ("sheet B with a rule unused", with_a_rule_unused().bytes()),
+        ("sheet A after a word", after_a_word().bytes()),
+        ("full, the last is reached", full_reach().bytes()),
     ]
+}
+
+/// Sheet B with a rule that calls itself and is never used: free.
+fn with_a_rule_unused() -> sheets::Sheet {
+    let mut sheet = sheet_b();
+    let itself = sheet.rule(2);
+    sheet.root(itself);
+    sheet
+}
+
+/// Not free, though rule 0 is not left-recursive:
+///
+/// ```text
+/// L <- 'sum' S
+/// S <- S '+' D / D
+/// D <- [0-9]
+/// ```
+fn after_a_word() -> sheets::Sheet {
+    let mut sheet = sheets::Sheet::new();
+    let (s, d) = (sheet.rule(1), sheet.rule(2));
+    let word = sheet.word("sum");
+    let l_root = sheet.sequence(word, s);
+    let plus = sheet.byte(b'+');
+    let longer = sheet.in_order(&[s, plus, d]);
+    let s_root = sheet.choice(longer, d);
+    let d_root = sheet.range(b'0', b'9');
+    for root in [l_root, s_root, d_root] {
+        sheet.root(root);
+    }
+    sheet
+}
+
+/// 64 rules of 8 nodes, each with the next one behind a byte, the last with itself.
+fn full_reach() -> sheets::Sheet {
+    let mut sheet = sheets::Sheet::new();
+    for rule in 0..64 {
+        let used = sheet.rule((rule + 1).min(63));
+        let byte = sheet.byte(b'a');
+        let mut root = if rule < 63 {
+            sheet.sequence(byte, used)
+        } else {
+            used
+        };
+        while !sheet.nodes.len().is_multiple_of(8) {
+            root = sheet.choice(byte, root);
+        }
+        sheet.root(root);
+    }
+    sheet
 }
 
 /// 64 rules of 8 nodes: each is a byte, or has the next rule at its left end,
@@ -184,7 +236,7 @@ fn print_reports(readers: &[Reader], table: &[u8]) {
 }
 
 /// A thousand lines each, with what the program lends.
-fn class_sheets() -> [Sheet; 3] {
+fn class_sheets() -> [Sheet; 4] {
     let mut random = Random::new(2_500);
     let mut make = |name, sheet: sheets::Sheet, line: fn(&mut Random) -> Vec<u8>| Sheet {
         name,
@@ -196,6 +248,7 @@ fn class_sheets() -> [Sheet; 3] {
         make("A", sheet_a(), lines::for_a),
         make("B", sheet_b(), lines::for_b),
         make("sum", sum(), lines::for_sums),
+        make("B with a rule unused", with_a_rule_unused(), lines::for_b),
     ]
 }
 
@@ -329,6 +382,18 @@ fn median(mut times: Vec<f64>) -> f64 {
 #[cfg(test)]
 mod tests {
     use super::*;
+
+    /// In the last three a rule is left-recursive, and rule 0 is not.
+    #[test]
+    fn what_the_report_tables_are() {
+        let found = report_tables().map(|(_, table)| {
+            let report = independent::report(&table);
+            (report.how_many, report.lowest, report.free)
+        });
+        assert_eq!(found[..2], [(1, 0, false), (0, 64, true)]);
+        assert_eq!(found[2..4], [(64, 0, false); 2]);
+        assert_eq!(found[4..], [(1, 2, true), (1, 1, false), (1, 63, false)]);
+    }
 
     /// Readers that differ are not compared by the clock.
     #[test]

@@ -4,8 +4,8 @@ use cases::Read;
 
 /// Code and place.
 type Check = fn(&[u8]) -> [u64; 2];
-/// Code, place, may be empty, left-recursive, how many, lowest.
-type Report = fn(&[u8]) -> [u64; 6];
+/// Code, place, may be empty, left-recursive, how many, lowest, free.
+type Report = fn(&[u8]) -> [u64; 7];
 
 pub struct Reader {
     pub name: &'static str,

@@ -3,12 +3,15 @@
 use sheets::Sheet;
 
 use crate::maker::Maker;
+use crate::reach::{not_free, swap_rules};
 use crate::soup;
 
 pub fn add(maker: &mut Maker) {
     right_recursion(maker);
     chains_of_nodes(maker);
     many_live_uses(maker);
+    far_reach(maker);
+    reach_down_a_chain(maker);
     full_size(maker);
 }
 
@@ -20,7 +23,7 @@ pub fn padded(sheet: &mut Sheet, child: u16, pads: usize) -> u16 {
 
 /// S <- pads T; T <- 'a' T / empty. Three visits deeper with each byte, so
 /// three pads reach every depth.
-pub fn right_recursive(pads: usize, not_free: bool) -> Sheet {
+pub fn right_recursive(pads: usize) -> Sheet {
     let mut sheet = Sheet::new();
     let t = sheet.rule(1);
     let root = padded(&mut sheet, t, pads);
@@ -30,16 +33,12 @@ pub fn right_recursive(pads: usize, not_free: bool) -> Sheet {
     let t_root = sheet.choice(longer, nothing);
     sheet.root(root);
     sheet.root(t_root);
-    if not_free {
-        let itself = sheet.rule(2);
-        sheet.root(itself);
-    }
     sheet
 }
 
 fn right_recursion(maker: &mut Maker) {
     for pads in 0..7 {
-        maker.table(&right_recursive(pads, false).bytes());
+        maker.table(&right_recursive(pads).bytes());
         for length in 166..=171 {
             maker.line(&vec![b'a'; length]);
             let whole = maker.random.chance(50);
@@ -48,7 +47,7 @@ fn right_recursion(maker: &mut Maker) {
         }
     }
     for pads in 0..4 {
-        maker.table(&right_recursive(pads, true).bytes());
+        maker.table(&not_free(right_recursive(pads)).bytes());
         for length in [165, 168, 169, 170, 171, 255] {
             maker.line(&vec![b'a'; length]);
             let allowance = maker.affordable(1_000);
@@ -86,16 +85,12 @@ fn chains_of_nodes(maker: &mut Maker) {
             }
         }
     }
-    for not_free in [false, true] {
-        let mut sheet = Sheet::new();
-        let a = sheet.byte(b'a');
-        let all = sheet.repetition(a);
-        let top = padded(&mut sheet, all, 500);
-        sheet.root(top);
-        if not_free {
-            let itself = sheet.rule(1);
-            sheet.root(itself);
-        }
+    let mut sheet = Sheet::new();
+    let a = sheet.byte(b'a');
+    let all = sheet.repetition(a);
+    let top = padded(&mut sheet, all, 500);
+    sheet.root(top);
+    for sheet in [sheet.clone(), not_free(sheet)] {
         maker.table(&sheet.bytes());
         for length in 8..=14 {
             maker.line(&vec![b'a'; length]);
@@ -128,6 +123,71 @@ fn many_live_uses(maker: &mut Maker) {
             around_a_refusal(maker, length % 2 == 0, allowance);
         }
     }
+}
+
+/// Rule 0 reaches the last rule through all others, or not at all.
+fn far_reach(maker: &mut Maker) {
+    for rules in [2, 3, 33, 63, 64] {
+        far_reach_of(maker, chain_of_rules(rules, None));
+        for end in [0, rules / 2, rules - 2] {
+            far_reach_of(maker, chain_of_rules(rules, Some(end)));
+        }
+    }
+}
+
+/// A rule that calls itself below a long chain of nodes, rule 0's root or not.
+fn reach_down_a_chain(maker: &mut Maker) {
+    let mut sheet = Sheet::new();
+    let nothing = sheet.empty();
+    let itself = sheet.rule(1);
+    let mut top = itself;
+    while sheet.nodes.len() < 512 {
+        top = match sheet.nodes.len() % 4 {
+            0 => sheet.sequence(nothing, top),
+            1 => sheet.choice(nothing, top),
+            2 => sheet.not(top),
+            _ => sheet.repetition(top),
+        };
+    }
+    for root in [top, nothing] {
+        let mut sheet = sheet.clone();
+        sheet.root(root);
+        sheet.root(itself);
+        maker.table(&sheet.bytes());
+        maker.report();
+        maker.line(b"");
+        maker.read_with_enough(true, 1_100, 40);
+    }
+}
+
+/// The report, and the reading of a line that goes through some of the rules.
+fn far_reach_of(maker: &mut Maker, mut sheet: Sheet) {
+    let rules = sheet.roots.len() as u16;
+    // Half the time numbered the other way round behind rule 0.
+    if maker.random.chance(50) {
+        for rule in 1..=(rules - 1) / 2 {
+            swap_rules(&mut sheet, rule, rules - rule);
+        }
+    }
+    maker.table(&sheet.bytes());
+    maker.report();
+    maker.line(&vec![b'a'; usize::from(rules.min(5))]);
+    maker.read_with_enough(false, 300, 100);
+}
+
+/// Each rule <- 'a' and the next / empty, but `end` goes to none; the last is itself.
+fn chain_of_rules(rules: u16, end: Option<u16>) -> Sheet {
+    let mut sheet = Sheet::new();
+    let (a, nothing) = (sheet.byte(b'a'), sheet.empty());
+    for rule in 0..rules - 1 {
+        let next = sheet.rule(rule + 1);
+        let on = sheet.sequence(a, if end == Some(rule) { a } else { next });
+        let root = sheet.choice(on, nothing);
+        sheet.root(root);
+    }
+    let itself = sheet.rule(rules - 1);
+    sheet.root(itself);
+    sheet
 }
 
 /// 512 nodes and 64 rules.
@@ -163,6 +223,15 @@ mod tests {
         independent::read(&sheet.bytes(), &line, 1_500, &mut work, &mut room, true).code
     }
 
+    #[test]
+    fn a_chain_of_rules_is_free_where_it_ends() {
+        for rules in [2, 3, 64] {
+            let free = |end| independent::report(&chain_of_rules(rules, end).bytes()).free;
+            assert!(!free(None));
+            assert!((0..rules - 1).all(|end| free(Some(end))));
+        }
+    }
+
     /// T at position p is open as number pads + 3p + 1, and under it come a
     /// choice, a sequence and a range.
     #[test]
@@ -171,7 +240,7 @@ mod tests {
             for length in 166..=171 {
                 let deepest = pads + 3 * length + 4;
                 let expected = if deepest <= 512 { 0 } else { 12 };
-                assert_eq!(code(&right_recursive(pads, false), length), expected);
+                assert_eq!(code(&right_recursive(pads), length), expected);
             }
         }
     }

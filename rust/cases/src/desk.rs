@@ -11,8 +11,8 @@ pub type Read = fn(&[u8], &[u8], u64, &mut [u32], &mut [u8], bool) -> [u64; 5];
 pub struct Readers {
     /// Code and place.
     pub check: fn(&[u8]) -> (u64, u64),
-    /// Code, place, may be empty, left-recursive, how many, lowest.
-    pub report: fn(&[u8]) -> [u64; 6],
+    /// Code, place, may be empty, left-recursive, how many, lowest, free.
+    pub report: fn(&[u8]) -> [u64; 7],
     pub read: Read,
     /// Stored bytes, rules, line length.
     pub well_formed: fn(&[u8], u64, u64) -> bool,

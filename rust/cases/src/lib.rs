@@ -12,6 +12,7 @@ mod formed;
 mod maker;
 pub mod program;
 mod random;
+mod reach;
 mod records;
 mod soup;
 mod textbook;
@@ -19,7 +20,7 @@ mod worked;
 
 pub use command::{decode, Command, Lending};
 pub use desk::{run, Desk, Read, Readers};
-pub use maker::{Cases, Tally};
+pub use maker::{Cases, Tables, Tally};
 pub use random::Random;
 pub use textbook::dear_sums;
 pub use worked::text as worked_text;

@@ -8,6 +8,8 @@ use cases::{make, Tally, SEED};
 /// Fewer than this of any code are too few to compare by.
 const LEAST_OF_A_CODE: u64 = 50;
 const LEAST_COMMANDS: u64 = 20_000;
+/// Of tables free though a rule is left-recursive, and not free though rule 0 is not.
+const LEAST_TABLES: u64 = 200;
 
 fn main() -> ExitCode {
     let arguments: Vec<String> = std::env::args().skip(1).collect();
@@ -43,9 +45,17 @@ fn print_counts(tally: &Tally) {
     }
     let [not, is] = tally.well_formed;
     eprintln!("well formed {is}, not well formed {not}");
+    let tables = &tally.tables;
+    eprintln!("tables without a left-recursive rule {}", tables.without);
+    eprintln!("tables free though they have one {}", tables.unreached);
+    eprintln!("tables whose rule 0 reaches one {}", tables.reached);
+    eprintln!("tables whose rule 0 is one {}", tables.itself);
     eprintln!("commands {}", tally.commands);
 }
 
 fn enough(tally: &Tally) -> bool {
-    tally.commands >= LEAST_COMMANDS && tally.codes.iter().all(|&count| count >= LEAST_OF_A_CODE)
+    let tables = [tally.tables.unreached, tally.tables.reached];
+    tally.commands >= LEAST_COMMANDS
+        && tally.codes.iter().all(|&count| count >= LEAST_OF_A_CODE)
+        && tables.iter().all(|&count| count >= LEAST_TABLES)
 }

@@ -1,5 +1,7 @@
 //! Making commands one by one, with their answers and a tally.
 
+use std::collections::HashSet;
+
 use crate::command::{Command, Lending};
 use crate::desk::{print, Desk, Readers};
 use crate::random::Random;
@@ -27,6 +29,42 @@ pub struct Tally {
     pub codes: [u64; independent::CODES],
     /// Times a stored reading was not and was well formed.
     pub well_formed: [u64; 2],
+    /// Accepted tables that were reported on or read by, each counted once.
+    pub tables: Tables,
+}
+
+/// How many tables there are of each sort.
+#[derive(Clone, Default)]
+pub struct Tables {
+    /// No rule is left-recursive.
+    pub without: u64,
+    /// Free, though a rule is left-recursive: rule 0 does not reach it.
+    pub unreached: u64,
+    /// Not free, though rule 0 is not left-recursive: it reaches one that is.
+    pub reached: u64,
+    /// Rule 0 is left-recursive.
+    pub itself: u64,
+}
+
+impl Tables {
+    fn count(&mut self, report: independent::Report) {
+        if report.code == independent::READ {
+            *self.of(report) += 1;
+        }
+    }
+
+    /// The count of the tables with such a report.
+    fn of(&mut self, report: independent::Report) -> &mut u64 {
+        if report.how_many == 0 {
+            &mut self.without
+        } else if report.free {
+            &mut self.unreached
+        } else if report.lowest > 0 {
+            &mut self.reached
+        } else {
+            &mut self.itself
+        }
+    }
 }
 
 /// A reading tried out beforehand, to aim the edges of its commands.
@@ -69,6 +107,8 @@ pub struct Maker {
     pub random: Random,
     desk: Desk,
     cases: Cases,
+    /// The tables counted.
+    counted: HashSet<Vec<u8>>,
 }
 
 impl Maker {
@@ -81,6 +121,7 @@ impl Maker {
                 stdout: Vec::new(),
                 tally: Tally::default(),
             },
+            counted: HashSet::new(),
         }
     }
 
@@ -106,6 +147,17 @@ impl Maker {
         match command {
             Command::WellFormed { .. } => tally.well_formed[first] += 1,
             _ => tally.codes[first] += 1,
+        }
+        if let Command::Report | Command::Read(_) = command {
+            self.count_table();
+        }
+    }
+
+    /// Counts the current table, unless it was counted before.
+    fn count_table(&mut self) {
+        let table = self.desk.table();
+        if self.counted.insert(table.to_vec()) {
+            self.cases.tally.tables.count(independent::report(table));
         }
     }
 

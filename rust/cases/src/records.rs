@@ -4,6 +4,7 @@
 use sheets::Sheet;
 
 use crate::maker::Maker;
+use crate::reach::not_free;
 
 pub fn add(maker: &mut Maker) {
     for rules in (1..=14).chain([31, 32, 33, 63, 64]) {
@@ -18,11 +19,11 @@ pub fn add(maker: &mut Maker) {
         .into_iter()
         .flat_map(|power| [power - 1, power, power + 1, power + 7]);
     for records in exact.into_iter().chain(around) {
-        maker.table(&exactly(records, false).bytes());
+        maker.table(&exactly(records).bytes());
         ask(maker, &[b"", b"a"], 600);
     }
     for records in [10, 500, 999, 1_000, 1_001, 1_002] {
-        maker.table(&exactly(records, true).bytes());
+        maker.table(&not_free(exactly(records)).bytes());
         ask(maker, &[b""], 14_000);
     }
     for steps in (1..=12).chain([30, 31, 32, 33, 40, 60]) {
@@ -75,18 +76,14 @@ pub fn each_the_next_twice(rules: u16) -> Sheet {
 }
 
 /// A sheet whose reading has exactly so many records on every line: a root
-/// over empty trees. Not free on wish, by a rule that is never used.
-pub fn exactly(records: u128, not_free: bool) -> Sheet {
+/// over empty trees.
+pub fn exactly(records: u128) -> Sheet {
     let mut sheet = Sheet::new();
     let nothing = sheet.empty();
     let one = sheet.rule(1);
     let root = so_many(&mut sheet, one, records - 1).unwrap_or(nothing);
     sheet.root(root);
     sheet.root(nothing);
-    if not_free {
-        let itself = sheet.rule(2);
-        sheet.root(itself);
-    }
     sheet
 }
 
@@ -210,13 +207,13 @@ mod tests {
     #[test]
     fn exactly_so_many_records() {
         for records in [1, 2, 7, 300, 999, 1_000] {
-            let answer = records_of(&exactly(records, false), b"", 400);
+            let answer = records_of(&exactly(records), b"", 400);
             assert_eq!((answer.code, u128::from(answer.records)), (0, records));
-            let answer = records_of(&exactly(records, true), b"", 14_000);
+            let answer = records_of(&not_free(exactly(records)), b"", 14_000);
             assert_eq!((answer.code, u128::from(answer.records)), (0, records));
         }
         for records in [1_001, 1 << 64, (1 << 64) + 7] {
-            assert_eq!(records_of(&exactly(records, false), b"", 400).code, 15);
+            assert_eq!(records_of(&exactly(records), b"", 400).code, 15);
         }
     }
 

@@ -3,12 +3,17 @@
 use sheets::{Node, Sheet};
 
 use crate::maker::{Maker, Trial};
+use crate::reach::{add_edge, add_unused, append, swap_rules, EDGES, FORMS};
 
 /// Makes random sheets with readings until so many commands are made.
 pub fn add(maker: &mut Maker, commands: u64) {
     while maker.commands() < commands {
         let alphabet = maker.random.pick(&[b"ab".as_slice(), b"abc", b"0+,", b"a"]);
-        let sheet = some_sheet(maker, alphabet);
+        let mut sheet = some_sheet(maker, alphabet);
+        if !is_free(&sheet) && maker.random.chance(30) {
+            sheet = behind_a_free_sheet(maker, alphabet, &sheet);
+        }
+        some_unused_rules(maker, &mut sheet);
         maker.table(&sheet.bytes());
         maker.report();
         if maker.random.chance(10) {
@@ -52,6 +57,49 @@ fn makes_trees(maker: &mut Maker, sheet: &Sheet) -> bool {
         }
     }
     most > 3 || (most > 1 && maker.random.chance(30))
+}
+
+/// The rules of a free sheet, then those of another, mostly not used by the first.
+fn behind_a_free_sheet(maker: &mut Maker, alphabet: &[u8], other: &Sheet) -> Sheet {
+    let mut sheet = some_sheet(maker, alphabet);
+    while !is_free(&sheet) {
+        sheet = some_sheet(maker, alphabet);
+    }
+    let (own, others) = (sheet.roots.len() as u64, other.roots.len() as u64);
+    append(&mut sheet, other);
+    if maker.random.chance(25) {
+        let from = maker.random.below(own) as usize;
+        let to = (own + maker.random.below(others)) as u16;
+        let edge = maker.random.pick(&EDGES);
+        add_edge(&mut sheet, from, to, edge);
+    }
+    sheet
+}
+
+fn is_free(sheet: &Sheet) -> bool {
+    independent::report(&sheet.bytes()).free
+}
+
+/// Adds left-recursive rules, most of them not used, and mostly to free sheets.
+fn some_unused_rules(maker: &mut Maker, sheet: &mut Sheet) {
+    let percent = if is_free(sheet) { 60 } else { 20 };
+    if !maker.random.chance(percent) {
+        return;
+    }
+    for _ in 0..maker.random.between(1, 2) {
+        let form = maker.random.pick(&FORMS);
+        let rule = add_unused(sheet, form);
+        if maker.random.chance(25) {
+            let edge = maker.random.pick(&EDGES);
+            let from = maker.random.below(rule.into()) as usize;
+            add_edge(sheet, from, rule, edge);
+        }
+        // Not always the last rules.
+        if rule > 1 && maker.random.chance(50) {
+            let other = maker.random.between(1, u64::from(rule) - 1) as u16;
+            swap_rules(sheet, rule, other);
+        }
+    }
 }
 
 /// Some of the edges of a reading, at random.

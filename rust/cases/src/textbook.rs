@@ -4,6 +4,7 @@
 use sheets::{sheet_a, sheet_b, sum, Sheet};
 
 use crate::maker::Maker;
+use crate::reach::{not_free, with_unused, with_used, Form, EDGES, FORMS};
 use crate::soup::drawn_line;
 
 /// A sheet and its lines.
@@ -257,18 +258,6 @@ fn repetition_over_trees() -> Sheet {
     sheet
 }
 
-/// The same where nothing is kept: rule 3 is left-recursive and unused.
-fn repetition_over_trees_not_free() -> Sheet {
-    with_unused_left_recursion(repetition_over_trees())
-}
-
-pub fn with_unused_left_recursion(mut sheet: Sheet) -> Sheet {
-    let own = sheet.roots.len() as u16;
-    let used = sheet.rule(own);
-    sheet.root(used);
-    sheet
-}
-
 /// S <- ((R* 'b')* 'c')*; R <- 'a'
 fn nested_repetitions() -> Sheet {
     let mut sheet = Sheet::new();
@@ -433,11 +422,46 @@ fn itself_repeated() -> Sheet {
     sheet
 }
 
-pub fn examples() -> Vec<Example> {
-    let example = |sheet: Sheet, lines: &[&'static str]| Example {
+fn example(sheet: Sheet, lines: &[&'static str]) -> Example {
+    Example {
         sheet,
         lines: lines.to_vec(),
+    }
+}
+
+pub fn examples() -> Vec<Example> {
+    let mut examples = grammars();
+    examples.extend(with_unused_rules());
+    examples.extend(with_used_rules());
+    examples
+}
+
+/// Free sheets with left-recursive rules that rule 0 does not reach.
+fn with_unused_rules() -> Vec<Example> {
+    let mut examples = Vec::new();
+    for form in FORMS {
+        examples.push(example(with_unused(sheet_b(), form), &["1,5", "1", ",5"]));
+    }
+    for (sheet, form, lines) in [
+        (repetition_over_trees(), Form::Pair, ["aab", "a"]),
+        (shared_root(), Form::Hidden, ["abbab", "b"]),
+        (identifiers_repeated(), Form::Using, ["x1,y2", "a,"]),
+    ] {
+        examples.push(example(with_unused(sheet, form), &lines));
+    }
+    examples
+}
+
+/// Their near twins: one edge leads to such a rule, so that none is free.
+fn with_used_rules() -> Vec<Example> {
+    let twin = |edge| {
+        let sheet = with_used(sheet_b(), 1, Form::Growing, edge);
+        example(sheet, &["1,5", "1", "zaa,5", "aa1"])
     };
+    EDGES.into_iter().map(twin).collect()
+}
+
+fn grammars() -> Vec<Example> {
     let hidden_lines = ["", "b", "ba", "baa", "xba", "xxbaa", "bxa", "a"];
     vec![
         example(
@@ -493,24 +517,18 @@ pub fn examples() -> Vec<Example> {
         example(twice_itself(), &["", "a", "aa", "aaa"]),
         example(only_itself(), &["", "a"]),
         example(repetition_over_trees(), &["b", "aab", "", "a", "aaa"]),
-        example(repetition_over_trees_not_free(), &["b", "aab", "", "a"]),
+        example(not_free(repetition_over_trees()), &["b", "aab", "", "a"]),
         example(nested_repetitions(), &["", "abc", "aabbcabc", "ab", "cc"]),
         example(repetitions_of_repetitions(), &["", "a", "aaa", "b"]),
-        example(
-            with_unused_left_recursion(repetitions_of_repetitions()),
-            &["", "aa"],
-        ),
+        example(not_free(repetitions_of_repetitions()), &["", "aa"]),
         example(double_not(), &["ab", "b", "a", "", "aab"]),
-        example(with_unused_left_recursion(double_not()), &["ab", "b", "a"]),
+        example(not_free(double_not()), &["ab", "b", "a"]),
         example(shared_child(), &["aa", "abab", "ba", "bbb", "a"]),
-        example(with_unused_left_recursion(shared_child()), &["aa", "abab"]),
+        example(not_free(shared_child()), &["aa", "abab"]),
         example(shared_root(), &["aa", "abbab", "bb", "b", "ab"]),
-        example(
-            with_unused_left_recursion(shared_root()),
-            &["aa", "abbab", "b"],
-        ),
+        example(not_free(shared_root()), &["aa", "abbab", "b"]),
         example(two_uses(), &["aax", "aay", "y", "z"]),
-        example(with_unused_left_recursion(two_uses()), &["aax", "aay", "z"]),
+        example(not_free(two_uses()), &["aax", "aay", "z"]),
         example(more_rules_than_nodes(), &["", "q", "qq"]),
         example(unreachable_nodes(), &["a", "q", ""]),
         example(crossed(), &["b", "baa", "bax", "bx", "a"]),
@@ -594,6 +612,13 @@ mod tests {
             let checked = independent::check(&example.sheet.bytes());
             assert_eq!(checked, (0, 0), "example {number}");
         }
+    }
+
+    #[test]
+    fn unused_rules_leave_sheets_free_and_used_ones_do_not() {
+        let free = |example: &Example| independent::report(&example.sheet.bytes()).free;
+        assert!(with_unused_rules().iter().all(free));
+        assert!(!with_used_rules().iter().any(free));
     }
 
     #[test]

@@ -5,6 +5,7 @@ use std::fmt::Write;
 
 use sheets::{sheet_a, sheet_b, Sheet};
 
+use crate::reach::{with_unused, Form};
 use crate::textbook::{both_sides, not_itself, sheet_b_turned_round};
 
 /// What a reading is asked for, and lent.
@@ -86,6 +87,7 @@ pub fn text() -> String {
     let mut page = Page(String::new());
     lines_of_a(&mut page);
     lines_of_b(&mut page);
+    unused_rules(&mut page);
     other_sheets(&mut page);
     doubling_rules(&mut page);
     line_length(&mut page);
@@ -130,6 +132,55 @@ fn lines_of_b(page: &mut Page) {
     page.reading("B on ,5, whole", &b, b",5", whole(2_500));
     let turned = sheet_b_turned_round().bytes();
     page.reading("B turned round on 1,5", &turned, b"1,5", whole(2_500));
+}
+
+/// Sheet B with rule 2, which calls itself, unused and then used by rule 1.
+fn unused_rules(page: &mut Page) {
+    for (name, sheet) in [
+        ("a rule unused", b_with_a_rule_unused()),
+        ("rule 2 behind a not", b_with_rule_2_behind_a_not()),
+        ("rule 2 second", b_with_rule_2_second()),
+        ("rule 2 repeated", b_with_rule_2_repeated()),
+    ] {
+        let table = sheet.bytes();
+        page.report(&format!("B with {name}, report"), &table);
+        for line in ["1,5", "1"] {
+            let name = format!("B with {name} on {line}");
+            page.reading(&name, &table, line.as_bytes(), prefix(2_500));
+        }
+    }
+}
+
+/// The digit of sheet B, and the use of rule 2 that is added to it.
+const DIGIT: u16 = 5;
+const USE_OF_RULE_2: u16 = 6;
+
+fn b_with_a_rule_unused() -> Sheet {
+    with_unused(sheet_b(), Form::Itself)
+}
+
+/// D <- !R [0-9]
+fn b_with_rule_2_behind_a_not() -> Sheet {
+    let mut sheet = b_with_a_rule_unused();
+    let not = sheet.not(USE_OF_RULE_2);
+    sheet.roots[1] = sheet.sequence(not, DIGIT);
+    sheet
+}
+
+/// D <- [0-9] R / [0-9]
+fn b_with_rule_2_second() -> Sheet {
+    let mut sheet = b_with_a_rule_unused();
+    let longer = sheet.sequence(DIGIT, USE_OF_RULE_2);
+    sheet.roots[1] = sheet.choice(longer, DIGIT);
+    sheet
+}
+
+/// D <- R* [0-9]
+fn b_with_rule_2_repeated() -> Sheet {
+    let mut sheet = b_with_a_rule_unused();
+    let all = sheet.repetition(USE_OF_RULE_2);
+    sheet.roots[1] = sheet.sequence(all, DIGIT);
+    sheet
 }
 
 fn other_sheets(page: &mut Page) {
@@ -376,4 +427,39 @@ fn order_of_the_check(page: &mut Page) {
     table[0] = 2;
     page.check("A with these and version 2", &table);
     page.check("A with these and six bytes", &table[..6]);
+}
+
+#[cfg(test)]
+mod tests {
+    use super::*;
+
+    /// Node by node, as they are written down for whoever builds them again.
+    #[test]
+    fn nodes_of_the_sheets_with_rule_2() {
+        let unused = b_with_a_rule_unused();
+        let nodes = [
+            (2, 1, 0),
+            (1, 44, 44),
+            (3, 1, 0),
+            (3, 0, 2),
+            (4, 3, 0),
+            (1, 48, 57),
+            (2, 2, 0),
+        ];
+        assert_eq!(
+            (&unused.roots[..], &unused.nodes[..]),
+            (&[4, 5, 6][..], &nodes[..])
+        );
+        for (sheet, more) in [
+            (b_with_rule_2_behind_a_not(), [(5, 6, 0), (3, 7, 5)]),
+            (b_with_rule_2_second(), [(3, 5, 6), (4, 7, 5)]),
+            (b_with_rule_2_repeated(), [(6, 6, 0), (3, 7, 5)]),
+        ] {
+            assert_eq!(sheet.roots, [4, 8, 6]);
+            assert_eq!(
+                (&sheet.nodes[..7], &sheet.nodes[7..]),
+                (&nodes[..], &more[..])
+            );
+        }
+    }
 }

@@ -423,3 +423,38 @@ fn plant(rule: usize, start: usize, end: usize, trees: Trees) -> Trees {
 fn records_in(trees: &[Rc<Tree>]) -> u64 {
     trees.iter().map(|tree| tree.records).sum()
 }
+
+#[cfg(test)]
+mod tests {
+    use super::*;
+
+    /// Sheet B with a third rule that calls itself and is never used.
+    const B_WITH_A_RULE_UNUSED: [u8; 48] = [
+        1, 0, 48, 0, 7, 0, 3, // version, length, seven nodes, three rules
+        0, 4, 0, 5, 0, 6, // their roots
+        2, 0, 1, 0, 0, // node 0: rule 1
+        1, 0, 44, 0, 44, // node 1: a comma
+        3, 0, 1, 0, 0, // node 2: 1, then 0
+        3, 0, 0, 0, 2, // node 3: 0, then 2
+        4, 0, 3, 0, 0, // node 4: 3, or else 0
+        1, 0, 48, 0, 57, // node 5: a digit
+        2, 0, 2, 0, 0, // node 6: rule 2
+    ];
+
+    fn visits(line: &[u8], free: bool) -> u64 {
+        let table = open(&B_WITH_A_RULE_UNUSED).expect("an accepted table");
+        let mut reading = Reading {
+            free,
+            ..Reading::new(&table, line, 100)
+        };
+        assert!(reading.use_rule(0, 0).is_ok());
+        reading.visits
+    }
+
+    /// What the rule that is never used would cost if it counted.
+    #[test]
+    fn visits_as_a_free_grammar_and_as_another() {
+        assert_eq!((visits(b"1,5", true), visits(b"1,5", false)), (8, 20));
+        assert_eq!((visits(b"1", true), visits(b"1", false)), (7, 20));
+    }
+}

@@ -1,4 +1,5 @@
-//! The report on a table: which rules may be empty, which are left-recursive.
+//! The report on a table: which rules may be empty, which are left-recursive,
+//! and whether the grammar is free.
 
 use crate::table::{open, Node, Table};
 use crate::READ;
@@ -15,11 +16,13 @@ pub struct Report {
     pub how_many: u64,
     /// The lowest rule set in `left_recursive`, 64 if none.
     pub lowest: u64,
+    /// Whether no rule that rule 0 reaches is left-recursive; not on a refusal.
+    pub free: bool,
 }
 
 impl Report {
-    /// In the order of the rules.
-    pub fn numbers(self) -> [u64; 6] {
+    /// In the order of the rules; free is 1 or 0.
+    pub fn numbers(self) -> [u64; 7] {
         [
             self.code,
             self.place,
@@ -27,6 +30,7 @@ impl Report {
             self.left_recursive,
             self.how_many,
             self.lowest,
+            self.free.into(),
         ]
     }
 }
@@ -40,18 +44,20 @@ pub fn report(table: &[u8]) -> Report {
             left_recursive: 0,
             how_many: 0,
             lowest: 64,
+            free: false,
         },
         Ok(table) => report_on(&table),
     }
 }
 
-/// A grammar is free if no rule in its table is left-recursive.
+/// A grammar is free if no rule that rule 0 reaches is left-recursive.
 pub(crate) fn is_free(table: &Table) -> bool {
-    report_on(table).how_many == 0
+    report_on(table).free
 }
 
 fn report_on(table: &Table) -> Report {
     let empty = nodes_that_may_be_empty(table);
+    let reached = reached_rules(table);
     let mut report = Report {
         code: READ,
         place: 0,
@@ -59,6 +65,7 @@ fn report_on(table: &Table) -> Report {
         left_recursive: 0,
         how_many: 0,
         lowest: 64,
+        free: true,
     };
     for rule in 0..table.roots.len() {
         if empty[table.roots[rule]] {
@@ -68,6 +75,9 @@ fn report_on(table: &Table) -> Report {
             report.left_recursive |= 1 << rule;
             report.how_many += 1;
             report.lowest = report.lowest.min(rule as u64);
+            if reached[rule] {
+                report.free = false;
+            }
         }
     }
     report
@@ -123,4 +133,33 @@ fn is_left_recursive(table: &Table, empty: &[bool], rule: usize) -> bool {
         }
     }
     (0..table.nodes.len()).any(|number| reached[number] && table.nodes[number] == Node::Rule(rule))
+}
+
+/// The children of a node, of any kind, whether or not they can be empty.
+fn children(node: Node) -> Vec<usize> {
+    match node {
+        Node::Empty | Node::Range { .. } | Node::Rule(_) => vec![],
+        Node::Not(child) | Node::Repetition(child) => vec![child],
+        Node::Sequence(first, second) | Node::Choice(first, second) => vec![first, second],
+    }
+}
+
+/// Rule 0, and each rule used by a node below the root of a rule that is reached.
+fn reached_rules(table: &Table) -> Vec<bool> {
+    let mut rules = vec![false; table.roots.len()];
+    rules[0] = true;
+    let mut seen = vec![false; table.nodes.len()];
+    let mut to_follow = vec![table.roots[0]];
+    while let Some(number) = to_follow.pop() {
+        if seen[number] {
+            continue;
+        }
+        seen[number] = true;
+        if let Node::Rule(rule) = table.nodes[number] {
+            rules[rule] = true;
+            to_follow.push(table.roots[rule]);
+        }
+        to_follow.extend(children(table.nodes[number]));
+    }
+    rules
 }

@@ -34,12 +34,15 @@ pub struct Report {
     pub how_many: usize,
     /// The lowest of them.
     pub lowest: Option<usize>,
+    /// No rule that rule 0 can reach is left-recursive.
+    pub free: bool,
 }
 
 impl Report {
-    /// No rule is left-recursive.
+    /// No rule that rule 0 can reach is left-recursive. Rules that are never
+    /// used don't count; the masks speak of all rules.
     pub fn is_free(&self) -> bool {
-        self.left_recursive == 0
+        self.free
     }
 }
 

@@ -41,9 +41,9 @@ pub fn check(table: &[u8]) -> [u64; 2] {
     answer
 }
 
-/// Code, place, may be empty, left-recursive, how many, lowest.
-pub fn report(table: &[u8]) -> [u64; 6] {
-    let mut answer = [0; 6];
+/// Code, place, may be empty, left-recursive, how many, lowest, free.
+pub fn report(table: &[u8]) -> [u64; 7] {
+    let mut answer = [0; 7];
     // SAFETY: as above.
     unsafe { c::kos_report(table.as_ptr(), table.len(), answer.as_mut_ptr()) };
     answer

@@ -1,10 +1,11 @@
 //! The proved reader for Rust: a safe face over its C functions.
 //!
 //! A sheet is a table of bytes. `check` says whether it is one, `report` which
-//! of its rules are left-recursive, `read_prefix` and `read_whole` read a line
-//! by it, and with `_with` they take the caller's buffers. They ask nothing of
-//! their arguments: each call ends with one of the named [`Code`]s. Nothing
-//! here is `unsafe` to use, and nothing panics on a damaged table or line.
+//! of its rules are left-recursive and whether it is free of those that rule 0
+//! can reach, `read_prefix` and `read_whole` read a line by it, and with `_with`
+//! they take the caller's buffers. They ask nothing of their arguments: each
+//! call ends with one of the named [`Code`]s. Nothing here is `unsafe` to use,
+//! and nothing panics on a damaged table or line.
 //!
 //! What is proved is proved of the C functions. This crate only lends them
 //! their buffers and unpacks their answers.

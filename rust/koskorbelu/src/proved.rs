@@ -14,13 +14,14 @@ pub fn check(table: &[u8]) -> Result<(), Refusal> {
 
 /// The report on a sheet.
 pub fn report(table: &[u8]) -> Result<Report, Refusal> {
-    let [code, place, may_be_empty, left_recursive, how_many, lowest] = face::report(table);
+    let [code, place, may_be_empty, left_recursive, how_many, lowest, free] = face::report(table);
     accepted(code, place)?;
     Ok(Report {
         may_be_empty,
         left_recursive,
         how_many: how_many as usize,
         lowest: (lowest < 64).then_some(lowest as usize),
+        free: free == 1,
     })
 }
 

@@ -186,7 +186,7 @@ mod proved {
     #[test]
     fn empty_slices() {
         assert_eq!(face::check(&[]), [1, 0]);
-        assert_eq!(face::report(&[]), [1, 0, 0, 0, 0, 64]);
+        assert_eq!(face::report(&[]), [1, 0, 0, 0, 0, 64, 0]);
         let table = sheet_b().bytes();
         for whole in [false, true] {
             let numbers = face::read(&[], &[], 0, &mut [], &mut [], whole);
@@ -237,5 +237,22 @@ mod proved {
         assert!(!report.is_free());
         let free = koskorbelu::report(&sheet_b().bytes()).unwrap();
         assert!(free.is_free() && free.lowest.is_none());
+    }
+
+    /// A left-recursive rule counts from the moment it is used.
+    #[test]
+    fn a_rule_that_is_never_used() {
+        let mut sheet = sheet_b();
+        let itself = sheet.rule(2);
+        sheet.root(itself);
+        assert_eq!(face::report(&sheet.bytes()), [0, 0, 0, 4, 1, 2, 1]);
+        let unused = koskorbelu::report(&sheet.bytes()).unwrap();
+        assert!(unused.is_free() && unused.lowest == Some(2));
+        let read = koskorbelu::read_whole(&sheet.bytes(), b"1,5", 2_500);
+        assert_eq!(read.to_string(), "READ 3 8 3");
+        let not = sheet.not(itself);
+        sheet.roots[1] = sheet.sequence(not, sheet.roots[1]);
+        assert_eq!(face::report(&sheet.bytes()), [0, 0, 0, 4, 1, 2, 0]);
+        assert!(!koskorbelu::report(&sheet.bytes()).unwrap().is_free());
     }
 }

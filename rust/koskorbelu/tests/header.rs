@@ -38,7 +38,13 @@ fn codes() {
 fn answers() {
     let header = header();
     let check = ["CODE", "PLACE"];
-    let report = ["MAY_BE_EMPTY", "LEFT_RECURSIVE", "HOW_MANY", "LOWEST"];
+    let report = [
+        "MAY_BE_EMPTY",
+        "LEFT_RECURSIVE",
+        "HOW_MANY",
+        "LOWEST",
+        "FREE",
+    ];
     let read = ["MATCHED", "VISITS", "RECORDS"];
     for (rest, count) in [(&report[..], "REPORT"), (&read[..], "READ"), (&[], "CHECK")] {
         for (at, name) in check.iter().chain(rest).enumerate() {
@@ -69,7 +75,7 @@ fn limits() {
         assert_eq!(header.get(name), Some(&number), "{name}");
     }
     // Nothing in the header is left untested but the stack, which c/stack.c measures.
-    let tested = Code::ALL.len() + 2 + 4 + 3 + 3 + 7;
+    let tested = Code::ALL.len() + 2 + 5 + 3 + 3 + 7;
     assert_eq!(header.len(), tested + 1, "{header:?}");
 }
 

@@ -136,8 +136,7 @@ pub fn read(
         kept: kept.as_chunks_mut().0,
         refusal: (0, 0),
     };
-    let free = masks(&sheet).left_recursive == 0;
-    let outcome = if free {
+    let outcome = if masks(&sheet).free {
         reading.kept.fill([0, 0]);
         reading.use_kept(0, 0, 0)
     } else {

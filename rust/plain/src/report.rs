@@ -13,11 +13,12 @@ pub struct Report {
     pub left_recursive: u64,
     pub how_many: u64,
     pub lowest: u64,
+    pub free: bool,
 }
 
 impl Report {
     /// In the order of the rules.
-    pub fn numbers(self) -> [u64; 6] {
+    pub fn numbers(self) -> [u64; 7] {
         [
             self.code,
             self.place,
@@ -25,6 +26,7 @@ impl Report {
             self.left_recursive,
             self.how_many,
             self.lowest,
+            self.free.into(),
         ]
     }
 }
@@ -41,6 +43,7 @@ pub fn report(table: &[u8]) -> Report {
         left_recursive: masks.left_recursive,
         how_many: masks.left_recursive.count_ones().into(),
         lowest: masks.left_recursive.trailing_zeros().into(),
+        free: masks.free,
     }
 }
 
@@ -48,6 +51,8 @@ pub fn report(table: &[u8]) -> Report {
 pub(crate) struct Masks {
     pub may_be_empty: u64,
     pub left_recursive: u64,
+    /// No rule that rule 0 reaches is left-recursive.
+    pub free: bool,
 }
 
 /// What a node can begin with, once rules are taken as they stand.
@@ -76,9 +81,11 @@ pub(crate) fn masks(sheet: &Sheet) -> Masks {
 
 fn masks_with(sheet: &Sheet, starts: &mut [Start]) -> Masks {
     let may_be_empty = settle(sheet, starts);
+    let left_recursive = left_recursive(sheet, starts);
     Masks {
         may_be_empty,
-        left_recursive: left_recursive(sheet, starts),
+        left_recursive,
+        free: is_free(sheet, starts, left_recursive),
     }
 }
 
@@ -158,4 +165,48 @@ fn left_recursive(sheet: &Sheet, starts: &[Start]) -> u64 {
         .enumerate()
         .map(own)
         .fold(0, |mask, bit| mask | bit)
+}
+
+/// By what rule 0 reaches, where that matters; the starts are then written over.
+#[inline]
+fn is_free(sheet: &Sheet, starts: &mut [Start], left_recursive: u64) -> bool {
+    if left_recursive == 0 {
+        return true;
+    }
+    if left_recursive & 1 == 1 {
+        return false;
+    }
+    use_anywhere(sheet, starts);
+    !reaches_any(sheet, starts, left_recursive)
+}
+
+/// Makes the uses of each node those of all nodes below it.
+fn use_anywhere(sheet: &Sheet, starts: &mut [Start]) {
+    for (number, node) in sheet.nodes.iter().enumerate() {
+        let node = Node::pack(node);
+        let of = |child: u32| starts[child as usize].uses;
+        starts[number].uses = match node.kind() {
+            EMPTY | RANGE => 0,
+            RULE => 1 << node.a(),
+            SEQUENCE | CHOICE => of(node.a()) | of(node.b()),
+            // Not and repetition.
+            _ => of(node.a()),
+        };
+    }
+}
+
+/// Whether rule 0 reaches a rule of the mask, by the uses of `use_anywhere`.
+fn reaches_any(sheet: &Sheet, starts: &[Start], mask: u64) -> bool {
+    let mut reached = 1_u64;
+    let mut waiting = 1_u64;
+    while waiting != 0 {
+        let rule = waiting.trailing_zeros() as usize;
+        let found = starts[sheet.root(rule) as usize].uses & !reached;
+        if found & mask != 0 {
+            return true;
+        }
+        reached |= found;
+        waiting = waiting & (waiting - 1) | found;
+    }
+    false
 }

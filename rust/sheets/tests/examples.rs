@@ -102,5 +102,6 @@ fn reports() {
         let left_recursive = if folder == "sum" { 0b11 } else { 0 };
         assert_eq!(report.left_recursive, left_recursive, "{folder}");
         assert_eq!(report.may_be_empty, 0, "{folder}");
+        assert_eq!(report.free, folder != "sum", "{folder}");
     }
 }

@@ -5,9 +5,10 @@ use sheets::{sheet_a, sheet_b, Sheet};
 use super::{Case, Grammar, Input};
 use crate::deep::{padded, right_recursive};
 use crate::maker::Maker;
+use crate::reach::not_free;
 use crate::records::{exactly, four_a_byte};
 use crate::soup::drawn_line;
-use crate::textbook::{examples, with_unused_left_recursion};
+use crate::textbook::examples;
 
 /// The most bytes that a table has.
 const MOST_TABLE: usize = 2_695;
@@ -245,10 +246,10 @@ fn in_visits(sheet: &mut Sheet, visits: u64) -> u16 {
 fn reading_in(visits: u64) -> Sheet {
     let mut sheet = Sheet::new();
     if visits.is_multiple_of(2) {
-        // S <- X, where nothing is kept: two attempts.
-        let root = in_visits(&mut sheet, visits / 2);
+        // S <- X / R, where nothing is kept: two attempts, R in neither.
+        let root = in_visits(&mut sheet, visits / 2 - 1);
         sheet.root(root);
-        return with_unused_left_recursion(sheet);
+        return not_free(sheet);
     }
     // S <- S 'a' / X: three visits before the first X, four before the second.
     let s = sheet.rule(0);
@@ -284,9 +285,10 @@ fn open_visits(cases: &mut Cases) {
         &all_a([0, 1]),
     );
     for pads in 0..4 {
-        for not_free in [false, true] {
-            let sheet = right_recursive(pads, not_free);
-            let name = format!("{pads} pads, not free {not_free}");
+        let sheet = right_recursive(pads);
+        let other = not_free(sheet.clone());
+        for (is_free, sheet) in [(true, sheet), (false, other)] {
+            let name = format!("{pads} pads, free {is_free}");
             cases.read(&name, &sheet, &all_a(160..=172));
         }
     }
@@ -319,7 +321,7 @@ fn working_numbers(cases: &mut Cases) {
 
 fn records(cases: &mut Cases) {
     for records in [1, 255, 256, 999, 1_000, 1_001, 1_002, 1 << 64] {
-        let sheet = exactly(records, false);
+        let sheet = exactly(records);
         cases.read(&format!("{records} records"), &sheet, &all_a([0, 1]));
     }
     cases.read("four records a byte", &four_a_byte(), &all_a(245..=256));
@@ -358,7 +360,7 @@ fn many_lines(cases: &mut Cases) {
     }
     // No answer is longer.
     let longest = all_a(vec![0; AT_ONCE + 1]);
-    cases.read("long answers", &exactly(1_000, false), &longest);
+    cases.read("long answers", &exactly(1_000), &longest);
     // A line begins before what is read at one time ends, and ends behind it.
     for before in AT_ONCE - 4..=AT_ONCE + 1 {
         let mut input = b"7+2\n".repeat(before / 4);
