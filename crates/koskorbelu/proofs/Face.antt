@@ -1,20 +1,20 @@
 -- What is written into a lent answer is what the callee returned; a second call's answer equals the first's.
-use mathlib.Core.Path.{_≡_, sym, ap, _∙_}
+use mathlib.Core.Path.{_≡_, refl, sym, ap, _∙_}
+use mathlib.Core.Bool.{Bool, true, false, false≢true}
 use mathlib.Core.List.{List, [], _∷_}
 use mathlib.Core.Logic.{_↔_}
-use Prim.Native.Nat.{ℕ}
-use borrow.Author.Tests.{eqb-true, eq-eqb}
-use lib.Dec.{eqb}
-use lib.ListN.{getD}
-use Rattle.meaning.specs.Report.{Free}
-use Rattle.meaning.specs.Decide.{isFree}
-use Rattle.meaning.proofs.Decided.{free-iff}
+use Prim.Native.Nat.{ℕ, _<_}
+use native.Mathlib.Omega.{arith}
+use lib.ListN.{length, getD}
+use Rattle.bits.specs.Mask.{one}
+use Rattle.bits.proofs.Laws.{has-none}
+use Rattle.meaning.specs.Report.{LeftRecursive, Free}
+use Rattle.meaning.proofs.Reached.{free-of-all}
 use Rattle.sheet.specs.declared.Verdict.{Verdict}
 use Rattle.sheet.specs.Table.{grammarOf, WellFormed}
 use Rattle.sheet.specs.Check.{checkOf}
 use Rattle.sheet.proofs.Exact.{accepted-iff}
-use Rattle.sheet.proofs.Accepting.{closed}
-use Rattle.report.proofs.Once.{one-report, free-by-mask}
+use Rattle.report.proofs.Once.{one-report}
 use Rattle.reader.specs.declared.Reading.{Reading}
 use Rattle.reader.specs.Answer.{Outcome, Leaves}
 use Rattle.koskorbelu.specs.Face.{checkNumbers, reportNumbers, readNumbers, LeavesReport, LeavesReading}
@@ -35,13 +35,30 @@ pub second-reading : {o : Outcome} {answer answer′ work work′ room room′ :
     → (answer ≡ answer′) × (work ≡ work′) × (room ≡ room′)
 second-reading h k = (h .written ∙ sym (k .written), h .working ∙ sym (k .working), h .stored ∙ sym (k .stored))
 
--- ---- 01: "A grammar is free if no rule in its table is left-recursive": the report says so by a second mask without a rule.
-pub reported-free : {table answer : List ℕ} → WellFormed table → LeavesReport table answer → (getD answer 3 0 ≡ 0) ↔ Free (grammarOf table)
-unfolding reportNumbers
-reported-free {table} {answer} w h =
-    let accepted = accepted-iff table .1 w in
-    let good = closed table accepted in
-    let mask = h .findings .«left_recursive» in
-    let e : getD answer 3 0 ≡ mask = ap (λ (a : List ℕ). getD a 3 0) (h .written) in
-    let same : eqb mask 0 ≡ isFree (grammarOf table) = free-by-mask (grammarOf table) good mask (h .reported .left-recursive accepted) in
-    ((λ z. free-iff (grammarOf table) good .0 (sym same ∙ eq-eqb mask 0 (sym e ∙ z))), (λ f. e ∙ eqb-true mask 0 (same ∙ free-iff (grammarOf table) good .1 f)))
+-- ---- 02, W-202: "Free shall mean that no rule reachable from rule 0 [..] is left-recursive": the report's last number says so, and is 0 on a refusal.
+module _ {table answer : List ℕ} (h : LeavesReport table answer) where
+  last-number : getD answer 6 0 ≡ one (h .findings .free)
+  unfolding reportNumbers
+  last-number = ap (λ (a : List ℕ). getD a 6 0) (h .written)
+
+  one-true : (b : Bool) → one b ≡ 1 → b ≡ true
+  one-true true e = refl
+  one-true false e = absurd (omega arith)
+
+  pub reported-free : WellFormed table → (getD answer 6 0 ≡ 1) ↔ Free (grammarOf table)
+  reported-free w =
+      let said = h .reported .free (accepted-iff table .1 w) in
+      ((λ e. said .0 (one-true (h .findings .free) (sym last-number ∙ e))), (λ f. last-number ∙ ap one (said .1 f)))
+
+  -- No rule at all is left-recursive.
+  pub none-left : WellFormed table → getD answer 3 0 ≡ 0 → getD answer 6 0 ≡ 1
+  unfolding reportNumbers
+  none-left w e =
+      let accepted = accepted-iff table .1 w in
+      let mask : h .findings .«left_recursive» ≡ 0 = sym (ap (λ (a : List ℕ). getD a 3 0) (h .written)) ∙ e in
+      let none : (a : ℕ) → a < length (grammarOf table .roots) → LeftRecursive (grammarOf table) a → ⊥ =
+      λ a l d. false≢true (sym (has-none a) ∙ rw mask at (h .reported .left-recursive accepted .complete a l d)) in
+      reported-free w .1 (free-of-all (grammarOf table) none)
+
+  pub refused-free : ¬ WellFormed table → getD answer 6 0 ≡ 0
+  refused-free n = last-number ∙ ap one (h .reported .refused (λ a. n (accepted-iff table .0 a)) .4)

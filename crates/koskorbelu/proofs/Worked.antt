@@ -1,4 +1,4 @@
--- 01's worked lines that are marked P: a single table, under one claim, by computation. The claim is of every working room and every room that is large enough.
+-- 01's worked lines that are marked P, and two of a sheet with a rule that nobody uses: a single table, under one claim, by computation. The claim is of every working room and every room that is large enough.
 use mathlib.Core.Path.{_≡_, refl, ap, subst, _∙_}
 use mathlib.Core.Bool.{Bool, true, false, _&&_, cond, and-eq-true-iff}
 use mathlib.Core.List.{List, [], _∷_, _++_, map, head-eq-of-cons-eq, tail-eq-of-cons-eq}
@@ -17,7 +17,7 @@ use Rattle.meaning.proofs.Choose.{by-test-twice}
 use Rattle.sheet.specs.Table.{lengthOf, nodesOf, rulesOf, rootOf, formula, kindOf, fieldOf, nodeOf, grammarOf}
 use Rattle.sheet.specs.Check.{READ, firstFault, rootFault, fieldsFit, faultOf, nodeFault, checkOf, Accepted}
 use Rattle.sheet.proofs.Exact.{accepted-iff}
-use Rattle.sheet.proofs.Worked.{tableA, tableB}
+use Rattle.sheet.proofs.Worked.{tableA, tableB, tableUnused}
 use Rattle.stored.specs.Stored.{recordsOf, numberOf, inBytes, recordBytes, treesBytes, storedLength, headBytes, storedOf}
 use Rattle.stored.proofs.Bytes.{length-stored}
 use Rattle.reader.specs.declared.Reading.{Reading}
@@ -45,7 +45,7 @@ abbrev pub AllHold : List Line → Type 0
 AllHold [] = Unit {0}
 AllHold (l ∷ ls) = Holds l × AllHold ls
 
--- 01's sheets A and B are tables of the crate sheet. B with its choice turned round: node 4 is choice 0 3.
+-- 01's sheets A and B, and B with a rule that nobody uses, are tables of the crate sheet. B with its choice turned round: node 4 is choice 0 3.
 abbrev pub turned : List ℕ
 turned =
     1 ∷ 0 ∷ 41 ∷ 0 ∷ 6 ∷ 0 ∷ 2
@@ -104,6 +104,8 @@ worked =
     ∷ case true tableA (55 ∷ 43 ∷ []) 2500 (numbers REST 1 1 16 0) []
     ∷ commaLine
     ∷ case true tableB (49 ∷ []) 2500 (numbers READ 0 1 7 2) (1 ∷ 0 ∷ 15 ∷ 0 ∷ 2 ∷ 1 ∷ 0 ∷ 1 ∷ 0 ∷ 0 ∷ 0 ∷ 0 ∷ 1 ∷ 0 ∷ 1 ∷ [])
+    ∷ case true tableUnused (49 ∷ 44 ∷ 53 ∷ []) 2500 (numbers READ 0 3 8 3) (1 ∷ 0 ∷ 20 ∷ 0 ∷ 3 ∷ 1 ∷ 0 ∷ 1 ∷ 0 ∷ 0 ∷ 1 ∷ 2 ∷ 3 ∷ 0 ∷ 0 ∷ 0 ∷ 0 ∷ 3 ∷ 0 ∷ 2 ∷ [])
+    ∷ case true tableUnused (49 ∷ []) 2500 (numbers READ 0 1 7 2) (1 ∷ 0 ∷ 15 ∷ 0 ∷ 2 ∷ 1 ∷ 0 ∷ 1 ∷ 0 ∷ 0 ∷ 0 ∷ 0 ∷ 1 ∷ 0 ∷ 1 ∷ [])
     ∷ case true turned (49 ∷ 44 ∷ 53 ∷ []) 2500 (numbers REST 1 1 3 0) []
     ∷ case true denied (97 ∷ []) 2500 (numbers READ 0 1 7 1) (1 ∷ 0 ∷ 10 ∷ 0 ∷ 1 ∷ 0 ∷ 0 ∷ 1 ∷ 0 ∷ 0 ∷ [])
     ∷ case true nine [] 2500 (numbers READ 0 0 25 511) (1 ∷ 10 ∷ 0 ∷ 1 ∷ 255 ∷ twice 8 0)

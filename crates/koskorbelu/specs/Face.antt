@@ -2,6 +2,7 @@
 use mathlib.Core.Path.{_≡_}
 use mathlib.Core.List.{List, [], _∷_}
 use Prim.Native.Nat.{ℕ}
+use Rattle.bits.specs.Mask.{one}
 use Rattle.sheet.specs.Check.{checkOf}
 use Rattle.report.specs.declared.Findings.{Findings}
 use Rattle.report.specs.Report.{Reported}
@@ -12,9 +13,10 @@ use Rattle.reader.specs.Answer.{Outcome}
 unfoldable pub checkNumbers : List ℕ → List ℕ
 checkNumbers table = checkOf table .code ∷ checkOf table .place ∷ []
 
--- 01: "The report gives code, place, a 64-bit mask [..], a like mask of left-recursive rules, how many bits are set in the second, and the lowest rule set in it".
+-- 01: "The report gives code, place, a 64-bit mask [..], a like mask of left-recursive rules, how many bits are set in the second, and the lowest rule set in it";
+-- 02, W-202: "the report adds a yes or no for free", as 1 or 0.
 unfoldable pub reportNumbers : Findings → List ℕ
-reportNumbers x = x .code ∷ x .place ∷ x .«may_be_empty» ∷ x .«left_recursive» ∷ x .«how_many» ∷ x .lowest ∷ []
+reportNumbers x = x .code ∷ x .place ∷ x .«may_be_empty» ∷ x .«left_recursive» ∷ x .«how_many» ∷ x .lowest ∷ one (x .free) ∷ []
 
 -- 01: "A reading returns code, place, matched, visits, records."
 unfoldable pub readNumbers : Reading → List ℕ

@@ -30,9 +30,9 @@ pub extern "C" fn kos_check(table: &[u8], answer: &mut [u64; 2])
     *answer = [v.code as u64, v.place as u64];
 }
 
-// The report on a table: code, place, the rules that may be empty, the left-recursive ones, how many of them, the lowest.
+// The report on a table: code, place, the rules that may be empty, the left-recursive ones, how many of them, the lowest, and 1 if the sheet is free.
 #[no_mangle]
-pub extern "C" fn kos_report(table: &[u8], answer: &mut [u64; 6])
+pub extern "C" fn kos_report(table: &[u8], answer: &mut [u64; 7])
     ensures { λ _. ⌜ LeavesReport (now (table .entry)) (now (answer .exit)) ⌝ }
 {
     let x = report::report(table);
@@ -43,6 +43,7 @@ pub extern "C" fn kos_report(table: &[u8], answer: &mut [u64; 6])
         x.left_recursive,
         x.how_many as u64,
         x.lowest as u64,
+        x.free as u64,
     ];
 }
 

@@ -1,16 +1,22 @@
--- 01's sheets A and B. "Report: masks 0 and 1, one set, lowest 0" of A; B is "free". By computing of their grammars what the contracts say of the code's answers.
-use mathlib.Core.Path.{_≡_, refl, ap, _∙_}
+-- 01's sheets A and B. "Report: masks 0 and 1, one set, lowest 0" of A; B is "free", and is so with a left-recursive rule that nobody uses.
+-- By computing of their grammars what the contracts say of the code's answers.
+use mathlib.Core.Path.{_≡_, refl, sym, ap, _∙_}
 use mathlib.Core.Bool.{Bool, true, false}
 use mathlib.Core.List.{List}
+use Rattle.meaning.specs.Grammar.{Grammar}
 use Prim.Native.Nat.{ℕ}
 use Rattle.bits.specs.Mask.{digit, has, howMany, least, maskOf}
-use Rattle.meaning.specs.Decide.{emptyNodes, emptyRules, ledTo, reach, isFree}
-use Rattle.sheet.specs.Check.{Accepted}
+use Rattle.meaning.specs.Decide.{emptyNodes, emptyRules, ledTo, reach, reachable, isFree}
+use Rattle.meaning.proofs.Decided.{free-iff}
+use Rattle.sheet.proofs.Accepting.{closed}
+use Rattle.sheet.specs.Table.{grammarOf}
+use Rattle.sheet.specs.Check.{READ, verdict, checkOf, Accepted}
 use Rattle.sheet.specs.declared.Verdict.{Verdict}
-use Rattle.sheet.proofs.Worked.{tableA, sheetA, tableB, sheetB, sheets}
+use Rattle.sheet.proofs.Worked.{tableA, sheetA, tableB, sheetB, tableUnused, sheetUnused, sheets}
 use Rattle.report.specs.declared.Findings.{Findings}
 use Rattle.report.specs.Report.{Reported}
 use Rattle.report.specs.Lent.{Answered}
+use Rattle.report.proofs.Once.{together}
 use Rattle.report.proofs.Computed.{recursiveRules, computed-empty, computed-recursive}
 
 code : Verdict → ℕ
@@ -19,37 +25,71 @@ code v = v .code
 place : Verdict → ℕ
 place v = v .place
 
--- Both masks of sheet A, and which of the two is free.
-pub computed : (maskOf (emptyRules sheetA) ≡ 0) × (maskOf (recursiveRules sheetA) ≡ 1) × (isFree sheetA ≡ false) × (isFree sheetB ≡ true)
-unfolding maskOf emptyRules emptyNodes recursiveRules reach ledTo isFree
-computed = (refl, refl, refl, refl)
+-- Both masks of a grammar, how many are set in the second, the lowest, and whether it is free.
+record Shown (g : Grammar) (may-be-empty left-recursive how-many lowest : ℕ) (free : Bool) : Type 0 where
+  empties : maskOf (emptyRules g) ≡ may-be-empty
+  lefts : maskOf (recursiveRules g) ≡ left-recursive
+  count : howMany (has left-recursive) 64 ≡ how-many
+  low : least (has left-recursive) 64 ≡ lowest
+  is-free : isFree g ≡ free
 
-counted : (howMany (has 1) 64 ≡ 1) × (least (has 1) 64 ≡ 0)
-unfolding howMany least has digit
-counted = (refl, refl)
+shown : Shown sheetA 0 1 1 0 false × Shown sheetB 0 0 0 64 true × Shown sheetUnused 0 4 1 2 true
+unfolding maskOf emptyRules emptyNodes recursiveRules reach ledTo reachable isFree howMany least has digit
+shown = (
+  record { empties = refl; lefts = refl; count = refl; low = refl; is-free = refl },
+  record { empties = refl; lefts = refl; count = refl; low = refl; is-free = refl },
+  record { empties = refl; lefts = refl; count = refl; low = refl; is-free = refl },
+)
 
-acceptedA : Accepted tableA
-unfolding Accepted code
-acceptedA = ap code (sheets .0)
+-- The report on a table of that grammar.
+module _ (t : List ℕ) (g : Grammar) (accepted : checkOf t ≡ verdict READ 0) (is : grammarOf t ≡ g) {m l n w : ℕ} {f : Bool} (s : Shown g m l n w f) where
+  is-accepted : Accepted t
+  unfolding Accepted code
+  is-accepted = ap code accepted
 
-module _ {x : Findings} (reported : Reported tableA x) where
-  recursive : x .«left_recursive» ≡ 1
-  recursive = computed-recursive reported acceptedA ∙ ap (λ g. maskOf (recursiveRules g)) (sheets .1) ∙ computed .1
+  module _ {x : Findings} (reported : Reported t x) where
+    lefts-are : x .«left_recursive» ≡ l
+    lefts-are = computed-recursive reported is-accepted ∙ ap (λ h. maskOf (recursiveRules h)) is ∙ s .lefts
 
-  pub report-A : (x .code ≡ 0) × (x .place ≡ 0) × (x .«may_be_empty» ≡ 0) × (x .«left_recursive» ≡ 1) × (x .«how_many» ≡ 1) × (x .lowest ≡ 0)
-  unfolding code place
-  report-A = (
-    reported .code ∙ ap code (sheets .0),
-    reported .place ∙ ap place (sheets .0),
-    computed-empty reported acceptedA ∙ ap (λ g. maskOf (emptyRules g)) (sheets .1) ∙ computed .0,
-    recursive,
-    reported .how-many ∙ ap (λ m. howMany (has m) 64) recursive ∙ counted .0,
-    reported .lowest ∙ ap (λ m. least (has m) 64) recursive ∙ counted .1,
-  )
+    free-is : x .free ≡ f
+    free-is =
+        let both = free-iff (grammarOf t) (closed t is-accepted) in
+        let said = reported .free is-accepted in
+        together (x .free) (isFree (grammarOf t)) (λ e. both .1 (said .0 e)) (λ e. said .1 (both .0 e)) ∙ ap isFree is ∙ s .is-free
 
--- A has a left-recursive rule, B has none.
+    report-is : (x .code ≡ 0) × (x .place ≡ 0) × (x .«may_be_empty» ≡ m) × (x .«left_recursive» ≡ l) × (x .«how_many» ≡ n) × (x .lowest ≡ w) × (x .free ≡ f)
+    unfolding code place
+    report-is = (
+      reported .code ∙ ap code accepted,
+      reported .place ∙ ap place accepted,
+      computed-empty reported is-accepted ∙ ap (λ h. maskOf (emptyRules h)) is ∙ s .empties,
+      lefts-are,
+      reported .how-many ∙ ap (λ h. howMany (has h) 64) lefts-are ∙ s .count,
+      reported .lowest ∙ ap (λ h. least (has h) 64) lefts-are ∙ s .low,
+      free-is,
+    )
+
+  answer-is : {answer : Bool} {before after : List ℕ} → Answered t answer before after → answer ≡ f
+  answer-is answered = answered .free ∙ ap isFree is ∙ s .is-free
+
+-- A has a left-recursive rule at its start, B has none, and the one that B has when a third rule is added is not reachable.
+pub report-A : {x : Findings} → Reported tableA x
+    → (x .code ≡ 0) × (x .place ≡ 0) × (x .«may_be_empty» ≡ 0) × (x .«left_recursive» ≡ 1) × (x .«how_many» ≡ 1) × (x .lowest ≡ 0) × (x .free ≡ false)
+report-A = report-is tableA sheetA (sheets .0) (sheets .1) (shown .0)
+
+pub report-B : {x : Findings} → Reported tableB x
+    → (x .code ≡ 0) × (x .place ≡ 0) × (x .«may_be_empty» ≡ 0) × (x .«left_recursive» ≡ 0) × (x .«how_many» ≡ 0) × (x .lowest ≡ 64) × (x .free ≡ true)
+report-B = report-is tableB sheetB (sheets .2) (sheets .3) (shown .1)
+
+pub report-unused : {x : Findings} → Reported tableUnused x
+    → (x .code ≡ 0) × (x .place ≡ 0) × (x .«may_be_empty» ≡ 0) × (x .«left_recursive» ≡ 4) × (x .«how_many» ≡ 1) × (x .lowest ≡ 2) × (x .free ≡ true)
+report-unused = report-is tableUnused sheetUnused (sheets .4) (sheets .5) (shown .2)
+
 pub free-A : {answer : Bool} {before after : List ℕ} → Answered tableA answer before after → answer ≡ false
-free-A answered = answered .free ∙ ap isFree (sheets .1) ∙ computed .2
+free-A = answer-is tableA sheetA (sheets .0) (sheets .1) (shown .0)
 
 pub free-B : {answer : Bool} {before after : List ℕ} → Answered tableB answer before after → answer ≡ true
-free-B answered = answered .free ∙ ap isFree (sheets .3) ∙ computed .3
+free-B = answer-is tableB sheetB (sheets .2) (sheets .3) (shown .1)
+
+pub free-unused : {answer : Bool} {before after : List ℕ} → Answered tableUnused answer before after → answer ≡ true
+free-unused = answer-is tableUnused sheetUnused (sheets .4) (sheets .5) (shown .2)

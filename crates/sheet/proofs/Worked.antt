@@ -1,4 +1,4 @@
--- 01's sheets A and B: their tables are accepted and are the grammars that 01 lists; and the order of refusals, on small tables.
+-- 01's sheets A and B, and B with a rule that nobody uses: their tables are accepted and are the grammars that 01 lists; and the order of refusals, on small tables.
 use mathlib.Core.Path.{_≡_, refl}
 use mathlib.Core.List.{List, [], _∷_}
 use Prim.Native.Nat.{ℕ}
@@ -43,9 +43,29 @@ sheetB =
       roots = 4 ∷ 5 ∷ [];
     }
 
+-- Sheet B with a third rule that calls itself and that nobody uses: N <- D ',' D / D; D <- [0-9]; R <- R.
+abbrev pub tableUnused : List ℕ
+tableUnused =
+    1 ∷ 0 ∷ 48 ∷ 0 ∷ 7 ∷ 0 ∷ 3 ∷ 0 ∷ 4 ∷ 0 ∷ 5 ∷ 0 ∷ 6
+    ∷ 2 ∷ 0 ∷ 1 ∷ 0 ∷ 0
+    ∷ 1 ∷ 0 ∷ 44 ∷ 0 ∷ 44
+    ∷ 3 ∷ 0 ∷ 1 ∷ 0 ∷ 0
+    ∷ 3 ∷ 0 ∷ 0 ∷ 0 ∷ 2
+    ∷ 4 ∷ 0 ∷ 3 ∷ 0 ∷ 0
+    ∷ 1 ∷ 0 ∷ 48 ∷ 0 ∷ 57
+    ∷ 2 ∷ 0 ∷ 2 ∷ 0 ∷ 0 ∷ []
+
+abbrev pub sheetUnused : Grammar
+sheetUnused =
+    record {
+      nodes = rule 1 ∷ range 44 44 ∷ seq 1 0 ∷ seq 0 2 ∷ choice 3 0 ∷ range 48 57 ∷ rule 2 ∷ [];
+      roots = 4 ∷ 5 ∷ 6 ∷ [];
+    }
+
 pub sheets : (checkOf tableA ≡ verdict READ 0) × (grammarOf tableA ≡ sheetA) × (checkOf tableB ≡ verdict READ 0) × (grammarOf tableB ≡ sheetB)
+    × (checkOf tableUnused ≡ verdict READ 0) × (grammarOf tableUnused ≡ sheetUnused)
 unfolding checkOf firstFault rootFault nodeFault faultOf fieldsFit grammarOf nodeOf kindOf fieldOf rootOf lengthOf nodesOf rulesOf formula
-sheets = (refl, refl, refl, refl)
+sheets = (refl, refl, refl, refl, refl, refl)
 
 -- Of two faults the one that 01 tests first: a count before a length, a root before a node, a field of node 0 before the kind of node 1.
 pub first-of-two :
