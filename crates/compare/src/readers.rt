@@ -6,7 +6,7 @@ pub(crate) fn check(table: &[u8]) -> [u64; 2] {
     [verdict.code as u64, verdict.place as u64]
 }
 
-pub(crate) fn report(table: &[u8]) -> [u64; 6] {
+pub(crate) fn report(table: &[u8]) -> [u64; 7] {
     let findings = report::report(table);
     [
         findings.code as u64,
@@ -15,6 +15,7 @@ pub(crate) fn report(table: &[u8]) -> [u64; 6] {
         findings.left_recursive,
         findings.how_many as u64,
         findings.lowest as u64,
+        findings.free as u64,
     ]
 }
 

@@ -36,6 +36,56 @@ pub(crate) fn sheet_b() {
     say::whole(b"B turned round on 1,5", &table, b, b"1,5", 2_500);
 }
 
+// A sheet's report, and how it reads 1,5 and 1.
+fn report_and_lines(
+    report: &[u8],
+    pair: &[u8],
+    single: &[u8],
+    table: &build::Table,
+    length: usize,
+) {
+    say::report(report, table, length);
+    say::prefix(pair, table, length, b"1,5", 2_500);
+    say::prefix(single, table, length, b"1", 2_500);
+}
+
+// A left-recursive rule takes nothing from a sheet that never uses it. Wherever it is used, the sheet isn't free.
+pub(crate) fn unused_rules() {
+    let mut table = [0u8; build::SPACE];
+    let unused = sheets::unused(&mut table);
+    report_and_lines(
+        b"B with a rule unused, report",
+        b"B with a rule unused on 1,5",
+        b"B with a rule unused on 1",
+        &table,
+        unused,
+    );
+    let denied = sheets::denied(&mut table);
+    report_and_lines(
+        b"B with rule 2 behind a not, report",
+        b"B with rule 2 behind a not on 1,5",
+        b"B with rule 2 behind a not on 1",
+        &table,
+        denied,
+    );
+    let second = sheets::second(&mut table);
+    report_and_lines(
+        b"B with rule 2 second, report",
+        b"B with rule 2 second on 1,5",
+        b"B with rule 2 second on 1",
+        &table,
+        second,
+    );
+    let repeated = sheets::repeated(&mut table);
+    report_and_lines(
+        b"B with rule 2 repeated, report",
+        b"B with rule 2 repeated on 1,5",
+        b"B with rule 2 repeated on 1",
+        &table,
+        repeated,
+    );
+}
+
 pub(crate) fn other_sheets() {
     let mut table = [0u8; build::SPACE];
     let s = sheets::not_itself(&mut table);

@@ -9,6 +9,7 @@ mod tables;
 fn main() {
     lines::sheet_a();
     lines::sheet_b();
+    lines::unused_rules();
     lines::other_sheets();
     lines::doubling();
     limits::line_length();

@@ -46,7 +46,8 @@ fn put_report(page: &mut Page, used: usize, table: &[u8]) -> usize {
     at = put_next(page, at, findings.may_be_empty);
     at = put_next(page, at, findings.left_recursive);
     at = put_next(page, at, findings.how_many as u64);
-    put_next(page, at, findings.lowest as u64)
+    at = put_next(page, at, findings.lowest as u64);
+    put_next(page, at, findings.free as u64)
 }
 
 fn read(

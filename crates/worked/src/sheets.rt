@@ -25,9 +25,8 @@ pub(crate) fn a(table: &mut Table) -> usize {
     length
 }
 
-// N <- D ',' D / D; D <- [0-9]
-pub(crate) fn b(table: &mut Table) -> usize {
-    let length = head(table, 6, 2);
+// The nodes of sheet B and the roots of its rules, in a table that has its head.
+fn put_b(table: &mut Table) {
     root(table, 0, 4);
     root(table, 1, 5);
     rule(table, 0, 1);
@@ -36,6 +35,55 @@ pub(crate) fn b(table: &mut Table) -> usize {
     seq(table, 3, 0, 2);
     choice(table, 4, 3, 0);
     range(table, 5, 48, 57);
+}
+
+// N <- D ',' D / D; D <- [0-9]
+pub(crate) fn b(table: &mut Table) -> usize {
+    let length = head(table, 6, 2);
+    put_b(table);
+    length
+}
+
+// Sheet B of so many nodes with a rule that calls itself, R <- R, as node 6.
+fn put_b_and_r(table: &mut Table, n: usize) -> usize
+    requires { ⌜ n ≤ 513 ⌝ }
+{
+    let length = head(table, n, 3);
+    put_b(table);
+    root(table, 2, 6);
+    rule(table, 6, 2);
+    length
+}
+
+// N <- D ',' D / D; D <- [0-9]; R <- R, which nobody uses
+pub(crate) fn unused(table: &mut Table) -> usize {
+    put_b_and_r(table, 7)
+}
+
+// The same with D <- !R [0-9]
+pub(crate) fn denied(table: &mut Table) -> usize {
+    let length = put_b_and_r(table, 9);
+    root(table, 1, 8);
+    not(table, 7, 6);
+    seq(table, 8, 7, 5);
+    length
+}
+
+// The same with D <- [0-9] R / [0-9]
+pub(crate) fn second(table: &mut Table) -> usize {
+    let length = put_b_and_r(table, 9);
+    root(table, 1, 8);
+    seq(table, 7, 5, 6);
+    choice(table, 8, 7, 5);
+    length
+}
+
+// The same with D <- R* [0-9]
+pub(crate) fn repeated(table: &mut Table) -> usize {
+    let length = put_b_and_r(table, 9);
+    root(table, 1, 8);
+    rep(table, 7, 6);
+    seq(table, 8, 7, 5);
     length
 }
 
