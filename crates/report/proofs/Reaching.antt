@@ -1,6 +1,6 @@
 -- Which rules are reachable: what a node uses anywhere is what is put down for it, and rounds from rule 0 on find every rule that a reachable rule's root uses.
 use mathlib.Core.Path.{_≡_, refl, sym, ap, _∙_}
-use mathlib.Core.Bool.{Bool, true, false, false≢true}
+use mathlib.Core.Bool.{true, _&&_, or-true, and-eq-true-iff, false≢true}
 use mathlib.Core.Logic.{⊎-elim}
 use mathlib.Mathlib.Data.Bool.Basic.{or-inl, or-inr}
 use Prim.Native.Nat.{ℕ, zero, suc, _^_, _≤_, _<_}
@@ -16,11 +16,12 @@ use Rattle.meaning.proofs.Chains.{first}
 use Rattle.meaning.proofs.Choose.{or-split}
 use Rattle.meaning.proofs.Reached.{met-root, met-rule, met-leads}
 use Rattle.report.specs.declared.Facts.{Facts}
-use Rattle.report.specs.Pass.{oneOf, usedIn, UsesSettled, spread}
+use Rattle.report.specs.Pass.{oneOf, factsOf, usedIn, UsesSettled, spread}
 use Rattle.report.specs.Report.{ReachableRules}
 use Rattle.report.specs.Lent.{AtStart, itself, StartRules}
 use Rattle.report.proofs.Sets.{has-only, spread-keeps, spread-sound, spread-fixed}
 use Rattle.report.proofs.Empties.{widen}
+use Rattle.report.proofs.Recursion.{row-starts}
 
 -- What stands at the start of rule 0 is reachable.
 pub start-reachable : (g : Grammar) {a : ℕ} → AtStart g a → Reachable g a
@@ -46,13 +47,13 @@ module _ (g : Grammar) (closed : Closed g) (few-rules : length (g .roots) ≤ 64
 
   node-uses : (i : ℕ) → ((k : ℕ) → k < i → (b : ℕ) → has (f k .starts) b ≡ true → Use (node g k) b)
       → (p : Node) → Below g i p → (b : ℕ) → has (usedIn f p .starts) b ≡ true → Use p b
-  unfolding usedIn oneOf
+  unfolding usedIn factsOf oneOf
   node-uses i below empty h b e = absurd (false≢true (sym (has-none b) ∙ e))
   node-uses i below (range lo hi) h b e = absurd (false≢true (sym (has-none b) ∙ e))
   node-uses i below (rule a) h b e = let same = eqb-true b a (sym (has-only a b (omega arith)) ∙ e) in rw same (h, here)
   node-uses i below (seq a c) h b e =
-      ⊎-elim (λ u. above to-first (below a (h .0) b u)) (λ u. above to-second (below c (h .1) b u))
-      (or-split (has (f a .starts) b) (has (f c .starts) b) (sym (has-or (f a .starts) (f c .starts) b) ∙ e))
+      ⊎-elim (λ u. above to-first (below a (h .0) b u)) (λ u. above to-second (below c (h .1) b (and-eq-true-iff (f a .empty) (has (f c .starts) b) .0 u .1)))
+      (or-split (has (f a .starts) b) (f a .empty && has (f c .starts) b) (sym (row-starts (f a) (f c) b) ∙ e))
   node-uses i below (choice a c) h b e =
       ⊎-elim (λ u. above to-one (below a (h .0) b u)) (λ u. above to-other (below c (h .1) b u))
       (or-split (has (f a .starts) b) (has (f c .starts) b) (sym (has-or (f a .starts) (f c .starts) b) ∙ e))
@@ -76,12 +77,17 @@ module _ (g : Grammar) (closed : Closed g) (few-rules : length (g .roots) ≤ 64
     rules = λ b e. known b (ap (λ (x : Facts). has (x .starts) b) (s i h) ∙ e);
   }
 
+  -- Every node is put down as one that may be empty.
+  all-empty : (i : ℕ) → i < length (g .nodes) → f i .empty ≡ true
+  unfolding usedIn
+  all-empty i h = ap (λ (x : Facts). x .empty) (s i h)
+
   within-child : {set : ℕ} {p q : Node} → Child g p q → Within set p → Within set q
-  unfolding usedIn oneOf
+  unfolding usedIn factsOf oneOf
   within-child {set} (to-first {a = i} {b = j}) w =
-      within set i (w .there .0) (λ b e. w .rules b (has-or (f i .starts) (f j .starts) b ∙ or-inl (has (f i .starts) b) _ e))
+      within set i (w .there .0) (λ b e. w .rules b (row-starts (f i) (f j) b ∙ or-inl (has (f i .starts) b) _ e))
   within-child {set} (to-second {a = i} {b = j}) w =
-      within set j (w .there .1) (λ b e. w .rules b (has-or (f i .starts) (f j .starts) b ∙ or-inr (has (f i .starts) b) _ e))
+      within set j (w .there .1) (λ b e. w .rules b (row-starts (f i) (f j) b ∙ rw (all-empty i (w .there .0), e) (or-true (has (f i .starts) b))))
   within-child {set} (to-one {a = i} {b = j}) w =
       within set i (w .there .0) (λ b e. w .rules b (has-or (f i .starts) (f j .starts) b ∙ or-inl (has (f i .starts) b) _ e))
   within-child {set} (to-other {a = i} {b = j}) w =
@@ -94,7 +100,7 @@ module _ (g : Grammar) (closed : Closed g) (few-rules : length (g .roots) ≤ 64
   within-all (on h k) w = within-child k (within-all h w)
 
   uses-found : (i b : ℕ) → i < length (g .nodes) → Chain (Child g) (node g i) (rule b) → has (f i .starts) b ≡ true
-  unfolding usedIn
+  unfolding usedIn factsOf
   uses-found i b h c =
       let w = within-all c (within (f i .starts) i h (λ b e. e)) in
       let there = w .there in

@@ -24,7 +24,7 @@ use Rattle.report.proofs.Sets.{has-only}
 use Rattle.report.proofs.Empties.{empty-sound, empty-found, inside}
 
 -- 01: "its first child, and also its second if the first may be empty (sequence)".
-row-starts : (x y : Facts) (b : ℕ) → has (inRow x y .starts) b ≡ (has (x .starts) b || x .empty && has (y .starts) b)
+pub row-starts : (x y : Facts) (b : ℕ) → has (inRow x y .starts) b ≡ (has (x .starts) b || x .empty && has (y .starts) b)
 unfolding inRow
 row-starts x y b =
     by-test (λ (z : Facts). has (z .starts) b ≡ (has (x .starts) b || x .empty && has (y .starts) b)) (x .empty) _ _

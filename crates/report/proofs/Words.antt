@@ -77,13 +77,7 @@ facts-local g known f h i same (rep a) b = ap (λ (x : Facts). facts (x .starts)
 
 pub uses-local : (g : Grammar) → Local g usedIn
 unfolding usedIn
-uses-local g f h i same empty b = refl
-uses-local g f h i same (range lo hi) b = refl
-uses-local g f h i same (rule a) b = refl
-uses-local g f h i same (seq a c) b = ap₂ oneOf (same a (b .0)) (same c (b .1))
-uses-local g f h i same (choice a c) b = ap₂ oneOf (same a (b .0)) (same c (b .1))
-uses-local g f h i same (not a) b = same a b
-uses-local g f h i same (rep a) b = same a b
+uses-local g f h i same p b = ap (λ (x : Facts). facts (x .starts) true) (facts-local g 0 f h i same p b)
 
 -- ---- A pass.
 module _ (g : Grammar) (of : (ℕ → Facts) → Node → Facts) (w : List ℕ) where

@@ -40,13 +40,7 @@ factsOf f known (rep a) = facts (f a .starts) true
 
 -- The rules that a node uses anywhere, by those of its children: every node is taken as one that may be empty, so that each child stands at its start.
 unfoldable pub usedIn : (ℕ → Facts) → Node → Facts
-usedIn f empty = facts 0 true
-usedIn f (range lo hi) = facts 0 true
-usedIn f (rule a) = facts (only a) true
-usedIn f (seq a b) = oneOf (f a) (f b)
-usedIn f (choice a b) = oneOf (f a) (f b)
-usedIn f (not a) = f a
-usedIn f (rep a) = f a
+usedIn f p = facts (factsOf f 0 p .starts) true
 
 -- ---- Three working numbers a node: the lower and the higher half of the rules at its start, and 1 where it may be empty.
 unfoldable pub factsAt : List ℕ → ℕ → Facts

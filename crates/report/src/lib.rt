@@ -35,7 +35,7 @@ ghost use Rattle.bits.specs.Mask.{has, one};
 ghost use Rattle.meaning.specs.Grammar.{node};
 ghost use Rattle.sheet.specs.Table.{nodesOf, mostNodes, mostRules, grammarOf};
 ghost use Rattle.sheet.specs.Check.{Accepted};
-ghost use Rattle.report.specs.Pass.{facts, only, inRow, oneOf, factsOf, usedIn, factsAt, put, passedAll, usedAll, rootFacts, Settled, UsesSettled, Gathered, inSet, widened, led, spread};
+ghost use Rattle.report.specs.Pass.{facts, only, inRow, oneOf, factsOf, factsAt, put, passedAll, usedAll, rootFacts, Settled, UsesSettled, Gathered, inSet, widened, led, spread};
 ghost use Rattle.report.specs.Report.{EmptyRules, LeftRules, ReachableRules, Reported};
 ghost use Rattle.report.specs.Lent.{StartRules, Judged, Answered};
 
@@ -321,36 +321,7 @@ fn masks(table: &[u8], scratch: &mut [u32]) -> RuleSets
     }
 }
 
-// The rules that node i uses anywhere, by the working numbers of its children: those at its start if every node could be empty.
-fn uses_of(table: &[u8], scratch: &[u32], i: usize) -> Facts
-    requires { ⌜ Accepted (now table) × (i < nodesOf (now table)) × (3 * mostNodes ≤ length (now scratch)) ⌝ }
-    ensures { λ x. ⌜ x ≡ usedIn (factsAt (now (scratch .entry))) (node (grammarOf (now (table .entry))) i) ⌝ }
-{
-    let a = sheet::field_a(table, i);
-    let b = sheet::field_b(table, i);
-    let kind = sheet::kind(table, i);
-    match kind {
-        0 => Facts {
-            starts: 0,
-            empty: true,
-        },
-        1 => Facts {
-            starts: 0,
-            empty: true,
-        },
-        2 => around(of_rule(0, a)),
-        3 => one_of(facts_at(scratch, a), facts_at(scratch, b)),
-        4 => one_of(facts_at(scratch, a), facts_at(scratch, b)),
-        5 => facts_at(scratch, a),
-        6 => facts_at(scratch, a),
-        _ => Facts {
-            starts: 0,
-            empty: true,
-        },
-    }
-}
-
-// One pass over the nodes: the rules that each uses anywhere.
+// One pass over the nodes: the rules that each uses anywhere. They are those at its start if every node could be empty, and so each is put down.
 fn pass_uses(table: &[u8], scratch: &mut [u32])
     requires { ⌜ Accepted (now table) × (3 * mostNodes ≤ length (now scratch)) ⌝ }
     ensures { λ _. ⌜ now (scratch .exit) ≡ usedAll (now (table .entry)) (now (scratch .entry)) ⌝ }
@@ -358,7 +329,7 @@ fn pass_uses(table: &[u8], scratch: &mut [u32])
     let n = sheet::node_count(table);
     let mut i: usize = 0;
     while i < n {
-        let x = uses_of(table, scratch, i);
+        let x = around(of_node(table, scratch, 0, i));
         put(scratch, i, x);
         i += 1;
     }

@@ -1,12 +1,14 @@
 -- A pass writes node after node the rules that it uses.
 use denote.Ref.{now}
-use mathlib.Core.Path.{_≡_, refl, _∙_}
+use mathlib.Core.Path.{_≡_, refl, ap, _∙_}
+use mathlib.Core.Bool.{true}
 use Prim.Native.Nat.{_-_, _≤_}
 use native.Mathlib.Omega.{arith}
 use borrow.Author.Needs.{needs}
 use lib.ListN.{length}
 use Rattle.sheet.specs.Table.{nodesOf, grammarOf}
-use Rattle.report.specs.Pass.{usedIn, passed}
+use Rattle.report.specs.declared.Facts.{Facts}
+use Rattle.report.specs.Pass.{facts, usedIn, passed}
 use Rattle.report.proofs.Words.{passed-next}
 use Rattle.report.proofs.pass_uses.Statement.{statement}
 use Rattle.report.proofs.pass_uses.Tie as tie
@@ -24,8 +26,11 @@ loop-holds : tie.Need-loop-holds Inv-loop μ-loop
 unfolding passed
 loop-holds c = (omega arith, refl, refl)
 
-uses-of-requires : tie.Need-uses-of-requires Inv-loop μ-loop
-uses-of-requires c κs = (c .before .before .before .before .before .before .pre .0, omega arith, omega arith)
+of-node-requires : tie.Need-of-node-requires Inv-loop μ-loop
+of-node-requires c κs = (c .before .before .before .before .before .before .pre .0, omega arith, omega arith)
+
+around-requires : tie.Need-around-requires Inv-loop μ-loop
+around-requires c κs = search needs
 
 put-requires : tie.Need-put-requires Inv-loop μ-loop
 put-requires c κs = omega arith
@@ -37,11 +42,13 @@ loop-less : tie.Need-loop-less Inv-loop μ-loop
 loop-less c = omega arith
 
 loop-again : tie.Need-loop-again Inv-loop μ-loop
+unfolding usedIn
 loop-again c =
     let p = c .before .before .put in
-    let l = c .before .before .before .before .before .before .before .loop in
+    let l = c .before .before .before .before .before .before .before .before .loop in
     let inv = l .inv in
-    (omega arith, p .kept .0 ∙ inv .1, p .ensures ∙ passed-next _ _ _ (l .i) (l .scratch) _ (inv .2) (c .before .before .before .before .uses-of .ensures))
+    let found = ap (λ (x : Facts). facts (x .starts) true) (c .before .before .before .before .before .of-node .ensures) in
+    (omega arith, p .kept .0 ∙ inv .1, p .ensures ∙ passed-next _ _ _ (l .i) (l .scratch) _ (inv .2) (c .before .before .before .before .around .ensures ∙ found))
 
 same-length : tie.Need-same-length Inv-loop μ-loop
 same-length c = c .before .loop .inv .1
@@ -59,7 +66,8 @@ pass-uses-spec =
     μ-loop
     node-count-requires
     loop-holds
-    uses-of-requires
+    of-node-requires
+    around-requires
     put-requires
     add-i
     loop-less
