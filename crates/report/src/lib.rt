@@ -329,8 +329,12 @@ fn pass_uses(table: &[u8], scratch: &mut [u32])
     let n = sheet::node_count(table);
     let mut i: usize = 0;
     while i < n {
-        let x = around(of_node(table, scratch, 0, i));
-        put(scratch, i, x);
+        let x = of_node(table, scratch, 0, i);
+        let uses = Facts {
+            starts: x.starts,
+            empty: true, // so that what stands behind it counts too
+        };
+        put(scratch, i, uses);
         i += 1;
     }
 }

@@ -29,9 +29,6 @@ loop-holds c = (omega arith, refl, refl)
 of-node-requires : tie.Need-of-node-requires Inv-loop μ-loop
 of-node-requires c κs = (c .before .before .before .before .before .before .pre .0, omega arith, omega arith)
 
-around-requires : tie.Need-around-requires Inv-loop μ-loop
-around-requires c κs = search needs
-
 put-requires : tie.Need-put-requires Inv-loop μ-loop
 put-requires c κs = omega arith
 
@@ -45,10 +42,10 @@ loop-again : tie.Need-loop-again Inv-loop μ-loop
 unfolding usedIn
 loop-again c =
     let p = c .before .before .put in
-    let l = c .before .before .before .before .before .before .before .before .loop in
+    let l = c .before .before .before .before .before .before .before .loop in
     let inv = l .inv in
-    let found = ap (λ (x : Facts). facts (x .starts) true) (c .before .before .before .before .before .of-node .ensures) in
-    (omega arith, p .kept .0 ∙ inv .1, p .ensures ∙ passed-next _ _ _ (l .i) (l .scratch) _ (inv .2) (c .before .before .before .before .around .ensures ∙ found))
+    let found = ap (λ (x : Facts). facts (x .starts) true) (c .before .before .before .before .of-node .ensures) in
+    (omega arith, p .kept .0 ∙ inv .1, p .ensures ∙ passed-next _ _ _ (l .i) (l .scratch) _ (inv .2) found)
 
 same-length : tie.Need-same-length Inv-loop μ-loop
 same-length c = c .before .loop .inv .1
@@ -67,7 +64,6 @@ pass-uses-spec =
     node-count-requires
     loop-holds
     of-node-requires
-    around-requires
     put-requires
     add-i
     loop-less
