@@ -8,7 +8,7 @@ use borrow.Author.Tests.{leb-true, le-ltb}
 use lib.Dec.{leb, ltb}
 use lib.ListN.{length, drop}
 use Rattle.meaning.specs.Grammar.{Trees, fail, ok, wrap, fits, look}
-use Rattle.meaning.specs.Decide.{emptyNodes, ledTo, reach, isFree}
+use Rattle.meaning.specs.Decide.{emptyNodes, ledTo, ledRules, isFree}
 use Rattle.meaning.specs.Reading.{made, Run, after, byte, joined, second, otherwise, repeatFrom, repeated, wrapped, apply, longer, attempted, grow, firstAttempt, useLive, keep, counted, useRule}
 use Rattle.meaning.specs.Reading.{recall, visited, visit, readBy, read}
 use Rattle.meaning.specs.Reading as reading
@@ -189,7 +189,7 @@ all-hold (l ∷ ls) h = (holds l (head-eq-of-cons-eq h), all-hold ls (tail-eq-of
 
 all-computed : map computed worked ≡ map wanted worked
 unfolding worked roomy matched wrap fits look after byte joined second otherwise reading.denied repeatFrom repeated wrapped apply longer attempted grow firstAttempt useLive keep
-    counted useRule recall visited visit readBy read emptyNodes ledTo reach isFree checkOf firstFault rootFault nodeFault faultOf fieldsFit lengthOf
+    counted useRule recall visited visit readBy read emptyNodes ledTo ledRules isFree checkOf firstFault rootFault nodeFault faultOf fieldsFit lengthOf
     nodesOf rulesOf rootOf formula kindOf fieldOf nodeOf grammarOf recordsOf numberOf inBytes recordBytes treesBytes headBytes storedOf
 all-computed = refl
 

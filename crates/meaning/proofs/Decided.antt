@@ -15,7 +15,7 @@ use Rattle.meaning.specs.Report.{MayBeEmpty, of-empty, of-not, of-rep, o
 use Rattle.meaning.specs.Report.{Starts, by-not, by-rep, by-choice, by-other, by-first, by-second, by-rule}
 use Rattle.meaning.specs.Report.{Child, to-first, to-second, to-one, to-other, to-denied, to-repeated, Reachable, start}
 use Rattle.meaning.specs.Report as report
-use Rattle.meaning.specs.Decide.{either, only, used, emptyBy, emptyNodes, emptyRules, startsOf, chained, ledTo, reach, goesTo, reachable, noneOf, isFree}
+use Rattle.meaning.specs.Decide.{either, only, used, emptyBy, emptyNodes, emptyRules, startsOf, chained, ledTo, ledRules, goesTo, reachable, noneOf, isFree}
 use Rattle.meaning.proofs.Chains.{round}
 use Rattle.meaning.proofs.Reached.{Met, met-root, met-child, met-rule}
 use Rattle.meaning.proofs.Choose.{or-split}
@@ -59,9 +59,9 @@ module _ (g : Grammar) where
   start-sound (not a) j e = to (not a) j by-not (only-is a j e)
   start-sound (rep a) j e = to (rep a) j by-rep (only-is a j e)
 
-  reach-sound : (a c : ℕ) → getD (reach g a) c false ≡ true → Leads g (root g a) (rule c)
-  unfolding reach ledTo
-  reach-sound a c e =
+  led-rules-sound : (a c : ℕ) → getD (ledRules g a) c false ≡ true → Leads g (root g a) (rule c)
+  unfolding ledRules ledTo
+  led-rules-sound a c e =
       let u = used-use (g .nodes) (getD (chained g (startsOf g es)) (rootOf g a) []) c e in
       rw (u .is) at (leads-sound g (startsOf g es) refl (Starts g) start-sound (rootOf g a) (u .number) (u .at))
 
@@ -146,10 +146,10 @@ module _ (g : Grammar) where
         led-start i b e (omega arith) (either-second (only a) (cond (getD es a false) (only b) []) b (rw may (only-self b)))
     led-step (by-rule {a = a}) i li e = let v : a < length (g .roots) = rw e at (good .nodes i li) in led-start i (rootOf g a) e (good .roots a v) (only-self (rootOf g a))
 
-    pub recursive-iff : (a : ℕ) → a < length (g .roots) → (getD (reach g a) a false ≡ true) ↔ LeftRecursive g a
-    unfolding reach ledTo
+    pub recursive-iff : (a : ℕ) → a < length (g .roots) → (getD (ledRules g a) a false ≡ true) ↔ LeftRecursive g a
+    unfolding ledRules ledTo
     recursive-iff a la = (
-      λ e. round g a (reach-sound a a e),
+      λ e. round g a (led-rules-sound a a e),
       λ l.
           let t = led-on g (startsOf g es) refl (Starts g) (λ q w. led-step) (l .chain) (l .last) (rootOf g a) (good .roots a la) refl in
           use-used (g .nodes) (getD (chained g (startsOf g es)) (rootOf g a) []) a (t .number) (t .way) (t .is),
@@ -219,13 +219,13 @@ module _ (g : Grammar) where
 
     -- Whether rule k is both.
     abbrev both : ℕ → Bool
-    both k = getD rs k false && getD (reach g k) k false
+    both k = getD rs k false && getD (ledRules g k) k false
 
     both-iff : (k : ℕ) → k < length (g .roots) → (both k ≡ true) ↔ (Reachable g k × LeftRecursive g k)
     both-iff k lk =
         let r = reachable-iff (omega arith) k in
         let l = recursive-iff k lk in
-        let w = and-eq-true-iff (getD rs k false) (getD (reach g k) k false) in
+        let w = and-eq-true-iff (getD rs k false) (getD (ledRules g k) k false) in
         (λ e. (r .0 (w .0 e .0), l .0 (w .0 e .1)), λ h. w .1 (r .1 (h .0), l .1 (h .1)))
 
     none-next : (k : ℕ) → k < length (g .roots) → both k ≡ false → NoneOf k → (t : Bool) (a : ℕ) → eqb a k ≡ t → a < suc k → Reachable g a → LeftRecursive g a → ⊥

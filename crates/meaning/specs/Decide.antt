@@ -94,9 +94,9 @@ module _ (g : Grammar) where
   ledTo = let es = emptyNodes in chained (startsOf es)
 
   -- The rules to a use of which a chain leads from rule a's root.
-  unfoldable pub reach : ℕ → List Bool
+  unfoldable pub ledRules : ℕ → List Bool
   unfolding ledTo emptyNodes
-  reach a = used (g .nodes) (getD ledTo (rootOf g a) [])
+  ledRules a = used (g .nodes) (getD ledTo (rootOf g a) [])
 
   -- The nodes that are reached from a node by one step: its children, and the root of the rule that it uses.
   abbrev pub goesTo : Node → List Bool
@@ -115,8 +115,8 @@ module _ (g : Grammar) where
   -- None of the first k rules that are marked is left-recursive.
   abbrev pub noneOf : List Bool → ℕ → Bool
   noneOf rs zero = true
-  noneOf rs (suc k) = B.not (getD rs k false && getD (reach k) k false) && noneOf rs k
+  noneOf rs (suc k) = B.not (getD rs k false && getD (ledRules k) k false) && noneOf rs k
 
   unfoldable pub isFree : Bool
-  unfolding reach ledTo emptyNodes reachable
+  unfolding ledRules ledTo emptyNodes reachable
   isFree = noneOf reachable (length (g .roots))

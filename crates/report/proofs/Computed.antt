@@ -11,7 +11,7 @@ use lib.ListN.{length, getD, length-map, List·getD-eq-default}
 use Rattle.bits.specs.Mask.{has, maskOf}
 use Rattle.bits.proofs.Laws.{is-mask-of}
 use Rattle.meaning.specs.Grammar.{Grammar}
-use Rattle.meaning.specs.Decide.{emptyRules, reach}
+use Rattle.meaning.specs.Decide.{emptyRules, ledRules}
 use Rattle.meaning.proofs.Decided.{empty-iff, recursive-iff}
 use Rattle.sheet.specs.Table.{each, grammarOf}
 use Rattle.sheet.specs.Check.{Accepted}
@@ -39,7 +39,7 @@ module _ {r : ℕ} {P : ℕ → Type 0} {mask : ℕ} (m : MaskOf r P mask) (few 
 
 -- Which rules are left-recursive, rule by rule.
 abbrev recursive : Grammar → ℕ → Bool
-recursive g a = getD (reach g a) a false
+recursive g a = getD (ledRules g a) a false
 
 unfoldable pub recursiveRules : Grammar → List Bool
 recursiveRules g = each (recursive g) 0 (length (g .roots))
@@ -62,6 +62,6 @@ module _ {t : List ℕ} {x : Findings} (reported : Reported t x) (accepted : Acc
       (λ a h.
       let both = recursive-iff (grammarOf t) (closed t accepted) a h in
       let e : 0 + a ≡ a = omega arith in
-      let mark : getD (recursiveRules (grammarOf t)) a false ≡ getD (reach (grammarOf t) a) a false =
+      let mark : getD (recursiveRules (grammarOf t)) a false ≡ getD (ledRules (grammarOf t) a) a false =
       getD-each (recursive (grammarOf t)) 0 (length (grammarOf t .roots)) a false h ∙ ap (recursive (grammarOf t)) e in
       ((λ u. both .0 (sym mark ∙ u)), (λ d. mark ∙ both .1 d)))

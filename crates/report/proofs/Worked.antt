@@ -6,7 +6,7 @@ use mathlib.Core.List.{List}
 use Rattle.meaning.specs.Grammar.{Grammar}
 use Prim.Native.Nat.{ℕ}
 use Rattle.bits.specs.Mask.{digit, has, howMany, least, maskOf}
-use Rattle.meaning.specs.Decide.{emptyNodes, emptyRules, ledTo, reach, reachable, isFree}
+use Rattle.meaning.specs.Decide.{emptyNodes, emptyRules, ledTo, ledRules, reachable, isFree}
 use Rattle.meaning.proofs.Decided.{free-iff}
 use Rattle.sheet.proofs.Accepting.{closed}
 use Rattle.sheet.specs.Table.{grammarOf}
@@ -34,7 +34,7 @@ record Shown (g : Grammar) (may-be-empty left-recursive how-many lowest : ℕ) (
   is-free : isFree g ≡ free
 
 shown : Shown sheetA 0 1 1 0 false × Shown sheetB 0 0 0 64 true × Shown sheetUnused 0 4 1 2 true
-unfolding maskOf emptyRules emptyNodes recursiveRules reach ledTo reachable isFree howMany least has digit
+unfolding maskOf emptyRules emptyNodes recursiveRules ledRules ledTo reachable isFree howMany least has digit
 shown = (
   record { empties = refl; lefts = refl; count = refl; low = refl; is-free = refl },
   record { empties = refl; lefts = refl; count = refl; low = refl; is-free = refl },

@@ -11,17 +11,18 @@
 // - The last pass gives for each rule the rules at the start of its root. These sets are closed by turns through each rule. A rule that is in its own
 //   set is left-recursive.
 // - A sheet is free if none of them is reachable from rule 0. Where there is none, or where rule 0 leads to one at its start, nothing more is worked out.
-//   Else one more pass puts down of each node the rules that it uses anywhere; from rule 0 on, the rules that a reachable rule's root uses are reachable.
+//   Else one more pass puts down of each node the rules that it uses anywhere: those at its start if every node could be empty. Then rounds, from rule 0 on:
+//   the rules that a reachable rule's root uses are reachable.
 //
 // What a reader must believe: specs/Report, with meaning's Report behind it, and specs/Lent. specs/Pass is what the other functions' contracts cite.
 // What is proved of it:
 //   proofs/Once        one report on a table; one answer whether it is free, and one content of the working numbers after it
 //   proofs/Computed    both masks are those that meaning's Decide computes
-//   proofs/Worked      01's sheets A and B
+//   proofs/Worked      01's sheets A and B, and B with a rule that nobody uses
 //   proofs/Words       what is put down for a node is read there; a pass settles every node
 //   proofs/Empties     a pass finds nothing but what may be empty; one that finds nothing new has found all
 //   proofs/Repeat      the passes put together
-//   proofs/Sets        rules gathered one by one, and one turn of the closing
+//   proofs/Sets        rules gathered one by one, one turn of the closing, and one round from rule 0 on
 //   proofs/Tables      the grammar's nodes and roots, by the numbers that the code reads
 //   proofs/Recursion   what stands at a node's start is led to, and what is led to is in the closed sets
 //   proofs/Reaching    what a node uses anywhere, and that the rounds from rule 0 on find the reachable rules
