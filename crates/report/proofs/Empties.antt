@@ -41,7 +41,7 @@ widen g i n h (rep a) b = omega arith
 module _ (g : Grammar) (closed : Closed g) (known : ℕ) (f : ℕ → Facts)
     (settled : (i : ℕ) → i < length (g .nodes) → f i ≡ factsOf f known (node g i)) where
   -- A node is inside the grammar.
-  pub inside : (i : ℕ) → i < length (g .nodes) → Below g (length (g .nodes)) (node g i)
+  inside : (i : ℕ) → i < length (g .nodes) → Below g (length (g .nodes)) (node g i)
   inside i h = widen g i (length (g .nodes)) (omega arith) (node g i) (closed .nodes i h)
 
   at : (i : ℕ) → i < length (g .nodes) → (Below g (length (g .nodes)) (node g i) → factsOf f known (node g i) .empty ≡ true) → f i .empty ≡ true

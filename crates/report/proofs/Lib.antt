@@ -1,6 +1,7 @@
 pub mod Words
 pub mod Sets
 pub mod Empties
+pub mod Standing
 pub mod Recursion
 pub mod Reaching
 pub mod Tables

@@ -24,6 +24,7 @@
 //   proofs/Repeat      the passes put together
 //   proofs/Sets        rules gathered one by one, one turn of the closing, and one round from rule 0 on
 //   proofs/Tables      the grammar's nodes and roots, by the numbers that the code reads
+//   proofs/Standing    what is put down for a node, by the children that count: at its start, or all of them
 //   proofs/Recursion   what stands at a node's start is led to, and what is led to is in the closed sets
 //   proofs/Reaching    what a node uses anywhere, and that the rounds from rule 0 on find the reachable rules
 //   proofs/Freely      a sheet is free exactly if no left-recursive rule is found to be reachable
