@@ -67,12 +67,24 @@ static const uint8_t NOT_ITSELF[] = {
     3, 0, 1, 0, 2,        /* 3 sequence 1 2 */
 };
 
-/* Stored readings: A on 7+2, A on 7, B on 1,5, B on 1, S <- !S 'a' on a. */
+static const uint8_t OPTION_REPEATED[] = {
+    1, 0, 39, 0, 6, 0, 1, /* S <- ('kW'?)*: version, length, six nodes, one rule */
+    0, 5,                 /* its root */
+    1, 0, 107, 0, 107,    /* 0 'k' */
+    1, 0, 87, 0, 87,      /* 1 'W' */
+    3, 0, 0, 0, 1,        /* 2 sequence 0 1 */
+    0, 0, 0, 0, 0,        /* 3 empty */
+    4, 0, 2, 0, 3,        /* 4 choice 2 3 */
+    6, 0, 4, 0, 0,        /* 5 repetition 4 */
+};
+
+/* Stored readings: A on 7+2, A on 7, B on 1,5, B on 1, S <- !S 'a' on a, S <- 'kW'* on kWkW. */
 static const uint8_t A_TWO[] = {1, 0, 25, 0, 4, 1, 0, 1, 0, 0, 0, 0, 1, 0, 1, 1, 2, 3, 0, 0, 0, 0, 3, 0, 2};
 static const uint8_t A_ONE[] = {1, 0, 15, 0, 2, 1, 0, 1, 0, 0, 0, 0, 1, 0, 1};
 static const uint8_t B_PAIR[] = {1, 0, 20, 0, 3, 1, 0, 1, 0, 0, 1, 2, 3, 0, 0, 0, 0, 3, 0, 2};
 static const uint8_t B_ONE[] = {1, 0, 15, 0, 2, 1, 0, 1, 0, 0, 0, 0, 1, 0, 1};
 static const uint8_t NOT_ONE[] = {1, 0, 10, 0, 1, 0, 0, 1, 0, 0};
+static const uint8_t WORD_TWICE[] = {1, 0, 10, 0, 1, 0, 0, 4, 0, 0};
 
 /* Where the page that can't be touched stands. */
 enum side { BEHIND, IN_FRONT };
@@ -221,10 +233,16 @@ static size_t work_needed(const struct reading *asked)
     return KOS_WORK_NEEDED(asked->allowance, nodes, strlen(asked->line));
 }
 
+/* READ and EFFORT to ROOM. LOOP is no such code, though its number is above theirs. */
+static int line_was_read(uint64_t code)
+{
+    return code == KOS_READ || (KOS_EFFORT <= code && code <= KOS_ROOM);
+}
+
 static void must_leave(const struct reading *asked, struct slice work, struct slice room)
 {
     uint64_t code = asked->due[KOS_AT_CODE];
-    size_t cleared = code >= KOS_SHORT && code <= KOS_WORK ? 0 : 4 * work_needed(asked);
+    size_t cleared = line_was_read(code) ? 4 * work_needed(asked) : 0;
     size_t stored = code == KOS_READ ? KOS_STORED_LENGTH(asked->due[KOS_AT_RECORDS]) : 0;
     must(is_zero(work, cleared), "working numbers not cleared");
     must(is_as_found(work, cleared), "working numbers changed");
@@ -430,6 +448,39 @@ static void refused_tables(void)
     refused("a range that ends before it begins", changed(44, 0, 47), length, KOS_FIELD, 6);
 }
 
+/* LOOP is given before LINE, ALLOW and WORK, and after KIND and FIELD of whichever node. */
+static void repetitions_of_nothing(void)
+{
+    static char line[257];
+    static uint8_t table[sizeof OPTION_REPEATED];
+    size_t length = sizeof table;
+    const uint64_t *due = DUE(KOS_LOOP, 5, 0, 0, 0);
+    memset(line, 'k', 256);
+    refused("('kW'?)*", OPTION_REPEATED, length, KOS_LOOP, 5);
+    for (int whole = 0; whole <= 1; whole++) {
+        reads("('kW'?)* on kW", "kW", whole, 2500, due, NULL);
+        read_lent(asked("('kW'?)* on 256 bytes, nothing lent", line, whole, 0, due, NULL), 0, 0);
+        read_lent(asked("('kW'?)* on 256 bytes", line, whole, 2500, due, NULL), 16384, 5005);
+        read_lent(asked("('kW'?)*, allowance 1,000,001", "kW", whole, 1000001, due, NULL), 3000, 30);
+    }
+    memcpy(table, OPTION_REPEATED, length);
+    memcpy(table + 29, (const uint8_t[]){6, 0, 3, 0, 0}, 5); /* node 4 */
+    refused("two repetitions of nothing", table, length, KOS_LOOP, 4);
+    table[34] = 7;
+    refused("one, then kind 7", table, length, KOS_KIND, 5);
+    table[34] = 6, table[36] = 5;
+    refused("one, then a field wrong", table, length, KOS_FIELD, 5);
+
+    memcpy(table, OPTION_REPEATED, length);
+    table[36] = 2; /* node 5 repeats node 2: 'kW'* */
+    TAKE(table);
+    check(sheet, sheet_length, KOS_READ, 0);
+    report(sheet, sheet_length, KOS_READ, 0, 1, 0, 0, 64, 1);
+    for (int whole = 0; whole <= 1; whole++)
+        reads("'kW'* on kWkW", "kWkW", whole, 2500, DUE(KOS_READ, 0, 4, 11, 1), WORD_TWICE);
+    reads("'kW'* on 256 bytes", line, 1, 2500, DUE(KOS_LINE, 0, 0, 0, 0), NULL);
+}
+
 int main(void)
 {
     signal(SIGSEGV, touched);
@@ -440,6 +491,7 @@ int main(void)
         long_lines();
         limits_of_what_is_lent();
         refused_tables();
+        repetitions_of_nothing();
     }
     return failures != 0;
 }

@@ -96,13 +96,11 @@ static const struct chain {
     uint64_t code;
 } chains[] = {
     {"512 nots, free", NOT, EMPTY, 0, KOS_FAIL},
-    {"512 repetitions, free", REPETITION, EMPTY, 0, KOS_READ},
     {"512 sequences by the first child, free", SEQUENCE, EMPTY, 0, KOS_READ},
     {"512 sequences by the second child, free", SEQUENCE, EMPTY, 1, KOS_READ},
     {"512 choices by the first child, free", CHOICE, RANGE, 0, KOS_FAIL},
     {"512 choices by the second child, free", CHOICE, RANGE, 1, KOS_FAIL},
     {"512 nots over the live use", NOT, RULE, 0, KOS_READ},
-    {"512 repetitions over the live use", REPETITION, RULE, 0, KOS_READ},
     {"512 sequences over the live use", SEQUENCE, RULE, 0, KOS_FAIL},
     {"512 choices by the first child, over the live use", CHOICE, RULE, 0, KOS_FAIL},
     {"512 choices by the second child, over the live use", CHOICE, RULE, 1, KOS_FAIL},
@@ -143,6 +141,20 @@ static void right_recursion(int is_free)
     add_root(&table, add_node(&table, CHOICE, longer, add_node(&table, EMPTY, 0, 0)));
     end(is_free);
     measure(is_free ? "right recursion to 512, free" : "right recursion to 512, live uses", call_read, KOS_DEEP);
+}
+
+/*
+ * ((..('a'* 'b')* 'b')* ..)* on 255 'a': 128 repetitions, each with a sequence below it, and in the innermost one visit
+ * more with each byte. No deeper row of repetitions alone is accepted, since each takes a byte.
+ */
+static void repetitions(int is_free)
+{
+    begin(KOS_MOST_LINE);
+    size_t last = add_node(&table, RANGE, 'b', 'b'), top = byte_or_rule(is_free, 1);
+    for (size_t i = 0; i < 128; i++) top = add_node(&table, SEQUENCE, add_node(&table, REPETITION, top, 0), last);
+    add_root(&table, add_node(&table, REPETITION, top, 0));
+    end(is_free);
+    measure(is_free ? "repetitions to 512, free" : "repetitions to 512, over live uses", call_read, KOS_DEEP);
 }
 
 /* A ring of 62 rules, each the next one; the last goes one byte on. Nearly every open visit is a use. */
@@ -230,6 +242,7 @@ int main(void)
     for (size_t i = 0; i < sizeof chains / sizeof chains[0]; i++) measure_chain(&chains[i]);
     for (int is_free = 0; is_free <= 1; is_free++) {
         right_recursion(is_free);
+        repetitions(is_free);
         ring(is_free);
     }
     nested_records();

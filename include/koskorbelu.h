@@ -32,7 +32,9 @@ extern "C" {
 #endif
 
 /* The first number of every answer. In brackets what the place then is; it is
- * 0 where none is named. The checks are made in this order, READ last. */
+ * 0 where none is named. The checks are made in this order, but LOOP after
+ * FIELD and before LINE, and READ last. So the line was read with READ and
+ * EFFORT to ROOM, and not with every number from EFFORT on. */
 enum kos_code {
     KOS_READ = 0,     /* no refusal */
     KOS_SHORT = 1,    /* table under 7 bytes */
@@ -50,7 +52,8 @@ enum kos_code {
     KOS_FAIL = 13,    /* rule 0 fails */
     KOS_REST = 14,    /* whole-line only: the match ends before the line (matched) */
     KOS_RECORDS = 15, /* the tree has over 1,000 records (matched) */
-    KOS_ROOM = 16     /* room under the stored length (matched) */
+    KOS_ROOM = 16,    /* room under the stored length (matched) */
+    KOS_LOOP = 17     /* a repetition's child may be empty (the first such node) */
 };
 
 /* Numbers in an answer of kos_check, kos_report and the two readings. */
@@ -96,17 +99,17 @@ enum kos_at {
 /*
  * Whether the table is a sheet.
  *
- * answer: code (READ or SHORT to FIELD), place. Nothing else is written.
+ * answer: code (READ, SHORT to FIELD or LOOP), place. Nothing else is written.
  */
 void kos_check(const uint8_t *table, size_t table_length, uint64_t answer[KOS_CHECK_NUMBERS]);
 
 /*
  * The report on a table.
  *
- * answer: code (READ or SHORT to FIELD), place, the mask of rules whose root
- * may be empty (bit i for rule i), the mask of left-recursive rules, how many
- * bits are set in it, the lowest of them (64 if none), free (1 or 0; 1 if no
- * rule that rule 0 can reach is left-recursive). On a refusal both masks, the
+ * answer: code (READ, SHORT to FIELD or LOOP), place, the mask of rules whose
+ * root may be empty (bit i for rule i), the mask of left-recursive rules, how
+ * many bits are set in it, the lowest of them (64 if none), free (1 or 0; 1 if
+ * no rule that rule 0 can reach is left-recursive). On a refusal both masks, the
  * number and free are 0 and the lowest is 64. Nothing else is written.
  */
 void kos_report(const uint8_t *table, size_t table_length, uint64_t answer[KOS_REPORT_NUMBERS]);
@@ -116,15 +119,15 @@ void kos_report(const uint8_t *table, size_t table_length, uint64_t answer[KOS_R
  *
  * answer: code, place, matched, visits, records.
  *
- *   SHORT to WORK   zeros after the place.
+ *   SHORT to WORK   zeros after the place; the same with LOOP.
  *   EFFORT to FAIL  matched 0, the visits made, records 0.
  *   RECORDS         matched, visits, 1,001.
  *   ROOM            matched, visits, the true number of records.
  *   READ            the same, and the tree is stored in the room.
  *
- * work: SHORT to WORK leave it as found. Else the first numbers, as many as
- * KOS_WORK_NEEDED says, are 0 and the rest is as found. What stood there
- * before has no influence.
+ * work: SHORT to WORK and LOOP leave it as found. Else the first numbers, as
+ * many as KOS_WORK_NEEDED says, are 0 and the rest is as found. What stood
+ * there before has no influence.
  *
  * room: READ leaves the stored reading in its first KOS_STORED_LENGTH(records)
  * bytes and the rest as found; any other answer leaves all of it as found.

@@ -16,7 +16,7 @@ named k e h n = rw (e, n) h
 pub past : (n k : ℕ) → k ≤ n → (n ≡ k → ⊥) → suc k ≤ n
 past n k h e = omega arith
 
-pub unnamed : {a b : List ℕ} {u v : ℕ} (code : ℕ) → 17 ≤ code → Puts a u [] b v → Puts a u (nameOf code) b v
+pub unnamed : {a b : List ℕ} {u v : ℕ} (code : ℕ) → 18 ≤ code → Puts a u [] b v → Puts a u (nameOf code) b v
 unfolding nameOf names
 unnamed code h p = rw (List·getD-eq-default names [] {n = code} h) p
 

@@ -6,7 +6,7 @@ use Prim.Native.Nat.{ℕ}
 use lib.ListN.{length, replicate, length-replicate}
 use Rattle.meaning.specs.Grammar.{Trees, fail, ok}
 use Rattle.meaning.specs.Reading.{Run, effort, deep, done, read}
-use Rattle.sheet.specs.Table.{nodesOf, grammarOf}
+use Rattle.layout.specs.Table.{nodesOf, grammarOf}
 use Rattle.page.specs.Page.{Puts}
 use Rattle.reader.specs.declared.Reading.{Reading}
 use Rattle.reader.specs.Answer.{Outcome, Leaves, workNeeded, cleared, matchOutcome, runOutcome, readingOf}

@@ -17,6 +17,10 @@ pub fail-0-5 : answerText (numbers 13 0 0 5 0) ≡ bytes "FAIL 0 5\n"
 unfolding answerText refusalText nameOf names bytes decimal decimalWithin
 fail-0-5 = refl
 
+pub loop-at-5 : refusalText 17 5 0 ≡ bytes "LOOP 5 0\n"
+unfolding refusalText nameOf names bytes decimal decimalWithin
+loop-at-5 = refl
+
 pub kind-at-511 : refusalText 6 511 0 ≡ bytes "KIND 511 0\n"
 unfolding refusalText nameOf names bytes decimal decimalWithin
 kind-at-511 = refl

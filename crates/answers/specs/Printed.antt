@@ -21,7 +21,7 @@ workingNumbers = 16384
 abbrev pub roomBytes : ℕ
 roomBytes = 5005
 
--- The names of 01's codes, from 0 to 16.
+-- The names of the codes, 01's from 0 to 16 and 02's LOOP.
 unfoldable pub names : List (List ℕ)
 names =
     bytes "READ"
@@ -41,6 +41,7 @@ names =
     ∷ bytes "REST"
     ∷ bytes "RECORDS"
     ∷ bytes "ROOM"
+    ∷ bytes "LOOP"
     ∷ []
 
 -- No other number has a name.

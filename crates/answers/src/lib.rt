@@ -18,7 +18,7 @@ pub type Room = [u8; ROOM];
 
 const LF: u8 = 10;
 
-// The name of a code from LINE on, which a check of the table does not give.
+// The name of a code from 8 on: of a reading, and LOOP.
 fn put_later_name(page: &mut Page, used: usize, code: u64) -> usize
     requires { ⌜ 8 ≤ code ⌝ }
     ensures { λ r. ⌜ Puts (now (page .entry)) used (nameOf code) (now (page .exit)) r ⌝ }
@@ -33,6 +33,7 @@ fn put_later_name(page: &mut Page, used: usize, code: u64) -> usize
         14 => page::put_all(page, used, b"REST"),
         15 => page::put_all(page, used, b"RECORDS"),
         16 => page::put_all(page, used, b"ROOM"),
+        17 => page::put_all(page, used, b"LOOP"),
         _ => used,
     }
 }

@@ -12,14 +12,15 @@ use lib.ListN.{length}
 use Rattle.meaning.specs.Grammar.{Trees, Answer, fail, ok}
 use Rattle.meaning.specs.Reading.{State, made, Run}
 use Rattle.meaning.proofs.Choose.{by-test, or-split}
-use Rattle.sheet.specs.declared.Verdict.{Verdict}
-use Rattle.sheet.specs.Table.{WellFormed}
-use Rattle.sheet.specs.Check.{READ, checkOf, verdict, Accepted}
+use Rattle.layout.specs.declared.Verdict.{Verdict}
+use Rattle.layout.specs.Layout.{READ, verdict}
+use Rattle.sheet.specs.Check.{LOOP, checkOf, Accepted}
 use Rattle.sheet.specs.Given as sheet
+use Rattle.sheet.specs.Given.{WellFormed}
 use Rattle.sheet.proofs.Exact as exact
-use Rattle.sheet.proofs.Tests.{ltb-iff, both, failed-iff}
+use Rattle.layout.proofs.Tests.{ltb-iff, both, failed-iff}
 use Rattle.stored.specs.Stored.{recordsOf, storedLength}
-use Rattle.reader.specs.Answer.{FAIL, ROOM, longestLine, mostAllowance, mostRecords, positionWidth, Outcome, cleared, matchOutcome, runOutcome, readingOf, Leaves}
+use Rattle.reader.specs.Answer.{FAIL, longestLine, mostAllowance, mostRecords, positionWidth, Outcome, cleared, matchOutcome, runOutcome, readingOf, Leaves}
 use Rattle.reader.specs.declared.Reading.{Reading}
 use Rattle.koskorbelu.specs.Demands.{Call, back, code, run, needed, ended, EndsBefore, Ended, fails, rest, records, room, reads, Came, effort, deep, done, Taken, Given, check, line}
 use Rattle.koskorbelu.specs.Demands.{allow, work, taken, Demand1}
@@ -88,7 +89,7 @@ module _ (c : Call) where
   pub came : Taken c → Came c (back c)
   came t = rw (by-run t refl) (of-run (run c) refl)
 
-  -- The tests of rows 1 to 9, failed or passed.
+  -- The tests of the rows before EFFORT, failed or passed.
   zero-code : checkOf (c .table) .code ≤ 0 → Accepted (c .table)
   unfolding Accepted
   zero-code l = omega arith
@@ -112,7 +113,7 @@ module _ (c : Call) where
       (λ q. taken (record { sheet = w; short = s; allowed = a; lent = ltb-false _ _ q }) (of-run (run c) refl)))))
 
   -- ---- The demand.
-  small : {o : Outcome} → Given c o → code o ≤ ROOM
+  small : {o : Outcome} → Given c o → code o ≤ LOOP
   small (check {code = k} h n) = let e : checkOf (c .table) .code ≡ k = ap (λ (v : Verdict). v .code) (exact.given-iff (c .table) .0 h) in omega (arith, exact.small-verdict (c .table) .0)
   small (line w h) = omega arith
   small (allow w s h) = omega arith

@@ -13,12 +13,14 @@ use Rattle.meaning.specs.Reading.{State, made, Run, readBy}
 use Rattle.meaning.proofs.Claims as claims
 use Rattle.meaning.proofs.Claims.{Only}
 use Rattle.meaning.proofs.OneBounded.{one-reading}
-use Rattle.sheet.specs.declared.Verdict.{Verdict}
-use Rattle.sheet.specs.Table.{WellFormed}
-use Rattle.sheet.specs.Check.{READ, checkOf}
-use Rattle.sheet.proofs.Exact.{given-iff, accepted-iff, small-verdict}
-use Rattle.sheet.proofs.Accepting.{closed, rule-count}
-use Rattle.reader.specs.Answer.{EFFORT, DEEP, FAIL, Outcome}
+use Rattle.layout.specs.declared.Verdict.{Verdict}
+use Rattle.layout.specs.Layout.{READ, FIELD}
+use Rattle.layout.proofs.Exact.{laid-iff}
+use Rattle.layout.proofs.Laying.{closed, rule-count}
+use Rattle.sheet.specs.Check.{LOOP, checkOf}
+use Rattle.sheet.specs.Given.{WellFormed}
+use Rattle.sheet.proofs.Exact.{given-iff, check-code}
+use Rattle.reader.specs.Answer.{EFFORT, DEEP, FAIL, ROOM, Outcome}
 use Rattle.koskorbelu.specs.Demands.{Call, back, code, visits, grammar, run, Ended, fails, rest, records, room, reads, Came, effort, deep, done, Taken, Given, check, line, allow}
 use Rattle.koskorbelu.specs.Demands.{work, taken, Answers, Demand2}
 use Rattle.koskorbelu.proofs.Demand1.{gives, came, given}
@@ -26,17 +28,17 @@ use Rattle.koskorbelu.proofs.Rows.{exactly}
 use Rattle.koskorbelu.proofs.Steady.{done-always}
 
 -- 0, or 13 to 16.
-answering : {k : ℕ} → Answers k → (k ≡ READ) ⊎ (FAIL ≤ k)
+answering : {k : ℕ} → Answers k → (k ≡ READ) ⊎ ((FAIL ≤ k) × (k ≤ ROOM))
 answering Answers.reads = inl refl
-answering Answers.fails = inr (omega arith)
-answering Answers.rest = inr (omega arith)
-answering Answers.records = inr (omega arith)
-answering Answers.room = inr (omega arith)
+answering Answers.fails = inr (omega arith, omega arith)
+answering Answers.rest = inr (omega arith, omega arith)
+answering Answers.records = inr (omega arith, omega arith)
+answering Answers.room = inr (omega arith, omega arith)
 
 pub not-answering : {A : Type 0} {k : ℕ} → Answers (suc k) → suc k < FAIL → A
 not-answering {A} {k} h l = by (answering h)
   where
-    by : (suc k ≡ READ) ⊎ (FAIL ≤ suc k) → A
+    by : (suc k ≡ READ) ⊎ ((FAIL ≤ suc k) × (suc k ≤ ROOM)) → A
     by (inl e) = absurd (omega arith)
     by (inr m) = absurd (omega arith)
 
@@ -60,18 +62,25 @@ module _ (c : Call) where
 
   -- The grammar of an accepted table is closed and has a rule.
   pub is-closed : WellFormed (c .table) → Closed (grammar c)
-  is-closed w = closed (c .table) (accepted-iff (c .table) .1 w)
+  is-closed w = closed (c .table) (laid-iff (c .table) .1 (w .laid))
 
   pub has-rule : WellFormed (c .table) → 0 < length (grammar c .roots)
-  has-rule w = omega (arith, rule-count (c .table), w .some-rule)
+  has-rule w = omega (arith, rule-count (c .table), w .laid .some-rule)
 
   -- A code of 0 or 13 to 16 says that the line was read.
   pub was-taken : {o : Outcome} → Given c o → Answers (code o) → Taken c
   was-taken (check {code = k} h n) a = absurd (not-refused (answering a))
     where
-      not-refused : (k ≡ READ) ⊎ (FAIL ≤ k) → ⊥
+      is : checkOf (c .table) .code ≡ k
+      is = ap (λ (v : Verdict). v .code) (given-iff (c .table) .0 h)
+
+      by-check : (checkOf (c .table) .code ≤ FIELD) ⊎ (checkOf (c .table) .code ≡ LOOP) → FAIL ≤ k → k ≤ ROOM → ⊥
+      by-check (inl few) l m = omega (arith, is)
+      by-check (inr loop) l m = omega (arith, is)
+
+      not-refused : (k ≡ READ) ⊎ ((FAIL ≤ k) × (k ≤ ROOM)) → ⊥
       not-refused (inl e) = n e
-      not-refused (inr l) = let e : checkOf (c .table) .code ≡ k = ap (λ (v : Verdict). v .code) (given-iff (c .table) .0 h) in omega (arith, small-verdict (c .table) .0)
+      not-refused (inr l) = by-check (check-code (c .table)) (l .0) (l .1)
   was-taken (line w h) a = not-answering a (omega arith)
   was-taken (allow w s h) a = not-answering a (omega arith)
   was-taken (work w s l h) a = not-answering a (omega arith)

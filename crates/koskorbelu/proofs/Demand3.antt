@@ -11,8 +11,8 @@ use Rattle.meaning.specs.Report.{Free, bound}
 use Rattle.meaning.specs.Reading.{State, made, Run}
 use Rattle.meaning.proofs.Runs.{Ends}
 use Rattle.meaning.proofs.Claims as claims
-use Rattle.sheet.specs.Table.{WellFormed}
-use Rattle.sheet.proofs.Accepting.{node-count}
+use Rattle.layout.proofs.Laying.{node-count}
+use Rattle.sheet.specs.Given.{WellFormed}
 use Rattle.reader.specs.Answer.{EFFORT, DEEP, longestLine, Outcome}
 use Rattle.koskorbelu.specs.Demands.{Call, back, code, visits, grammar, run, Ended, Came, effort, deep, done, Taken, Demand3}
 use Rattle.koskorbelu.proofs.Demand1.{came}
@@ -22,7 +22,7 @@ module _ (c : Call) where
   -- No call needs a larger allowance than this.
   pub most-bound : WellFormed (c .table) → length (c .line) ≤ longestLine → bound (grammar c) (c .line) ≤ 262145
   most-bound w short =
-      let n : 2 * length (grammar c .nodes) ≤ 1024 = omega (arith, node-count (c .table), w .few-nodes) in
+      let n : 2 * length (grammar c .nodes) ≤ 1024 = omega (arith, node-count (c .table), w .laid .few-nodes) in
       let l : length (c .line) + 1 ≤ 256 = omega arith in
       let p : 2 * length (grammar c .nodes) * (length (c .line) + 1) ≤ 1024 * 256 = mul-le-mul n l in
       omega arith

@@ -10,8 +10,9 @@ use Rattle.bits.specs.Mask.{one}
 use Rattle.bits.proofs.Laws.{has-none}
 use Rattle.meaning.specs.Report.{LeftRecursive, Free}
 use Rattle.meaning.proofs.Reached.{free-of-all}
-use Rattle.sheet.specs.declared.Verdict.{Verdict}
-use Rattle.sheet.specs.Table.{grammarOf, WellFormed}
+use Rattle.layout.specs.declared.Verdict.{Verdict}
+use Rattle.layout.specs.Table.{grammarOf}
+use Rattle.sheet.specs.Given.{WellFormed}
 use Rattle.sheet.specs.Check.{checkOf}
 use Rattle.sheet.proofs.Exact.{accepted-iff}
 use Rattle.report.proofs.Once.{one-report}

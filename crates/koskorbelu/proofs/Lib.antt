@@ -6,6 +6,7 @@ pub mod Demand2
 pub mod Demand3
 pub mod Nests
 pub mod Stored
+pub mod Repetitions
 pub mod Worked
 pub mod Allowance
 pub mod StandIns

@@ -7,9 +7,11 @@ use native.Mathlib.Omega.{arith}
 use lib.ListN.{length, getD}
 use Rattle.meaning.specs.Grammar.{Trees, fail, ok}
 use Rattle.meaning.specs.Reading.{State, Run}
-use Rattle.sheet.specs.Table.{WellFormed}
-use Rattle.sheet.specs.Check.{READ, SHORT, VERSION, COUNT, LENGTH, ROOT, KIND, FIELD}
+use Rattle.layout.specs.Layout.{READ, SHORT, VERSION, COUNT, LENGTH, ROOT, KIND, FIELD}
+use Rattle.layout.specs.Given as layout
+use Rattle.sheet.specs.Check.{LOOP}
 use Rattle.sheet.specs.Given as sheet
+use Rattle.sheet.specs.Given.{WellFormed}
 use Rattle.stored.specs.Stored.{recordsOf, storedLength}
 use Rattle.reader.specs.Answer.{longestLine, mostAllowance, mostRecords, positionWidth, Outcome}
 use Rattle.koskorbelu.specs.Demands.{Call, back, code, run, needed, EndsBefore, fails, rest, records, room, reads, effort, deep, done, Taken, Given, check, line, allow, work, taken}
@@ -38,7 +40,7 @@ module _ (c : Call) where
   abbrev pub Matches : (ℕ → Trees → Type 0) → Type 0
   Matches P = Taken c × ((e : ℕ) × (ts : Trees) × (s : State) × (run c ≡ Run.done (ok e ts) s) × P e ts)
 
-  -- 01's column "given exactly when", from code 0 to code 16.
+  -- 01's column "given exactly when", from code 0 to code 16, and 02's for code 17.
   abbrev pub rows : List (Type 0)
   rows =
       Matches (λ e ts. ¬ EndsBefore c e × (recordsOf ts ≤ mostRecords) × (storedLength positionWidth (recordsOf ts) ≤ length (c .room)))
@@ -58,19 +60,22 @@ module _ (c : Call) where
       ∷ Matches (λ e ts. EndsBefore c e)
       ∷ Matches (λ e ts. ¬ EndsBefore c e × (mostRecords < recordsOf ts))
       ∷ Matches (λ e ts. ¬ EndsBefore c e × (recordsOf ts ≤ mostRecords) × (length (c .room) < storedLength positionWidth (recordsOf ts)))
+      ∷ Refused LOOP
       ∷ []
 
   abbrev pub When : ℕ → Type 0
   When k = getD rows k ⊥
 
   refused : {k p : ℕ} → sheet.Given (c .table) k p → k ≢ READ → When k
-  refused (sheet.short h) n = (_, sheet.short h)
-  refused (sheet.version l h) n = (_, sheet.version l h)
-  refused (sheet.count l v h) n = (_, sheet.count l v h)
-  refused (sheet.lengths l v k h) n = (_, sheet.lengths l v k h)
-  refused (sheet.root h l before over) n = (_, sheet.root h l before over)
-  refused (sheet.kind h roots l before over) n = (_, sheet.kind h roots l before over)
-  refused (sheet.field h roots l before k against) n = (_, sheet.field h roots l before k against)
+  refused (sheet.laid-out (layout.short h) m) n = (_, sheet.laid-out (layout.short h) m)
+  refused (sheet.laid-out (layout.version l h) m) n = (_, sheet.laid-out (layout.version l h) m)
+  refused (sheet.laid-out (layout.count l v h) m) n = (_, sheet.laid-out (layout.count l v h) m)
+  refused (sheet.laid-out (layout.lengths l v k h) m) n = (_, sheet.laid-out (layout.lengths l v k h) m)
+  refused (sheet.laid-out (layout.root h l before over) m) n = (_, sheet.laid-out (layout.root h l before over) m)
+  refused (sheet.laid-out (layout.kind h roots l before over) m) n = (_, sheet.laid-out (layout.kind h roots l before over) m)
+  refused (sheet.laid-out (layout.field h roots l before k against) m) n = (_, sheet.laid-out (layout.field h roots l before k against) m)
+  refused (sheet.laid-out (layout.read w) m) n = absurd (m refl)
+  refused (sheet.loop w l before d) n = (_, sheet.loop w l before d)
   refused (sheet.read w) n = absurd (n refl)
 
   when : {o : Outcome} → Given c o → When (code o)
@@ -108,9 +113,10 @@ module _ (c : Call) where
       then (λ h. comes (taken (h .0) (done (h .1 .3) (rest (h .1 .4)))))
       then (λ h. comes (taken (h .0) (done (h .1 .3) (records (h .1 .4 .0) (h .1 .4 .1)))))
       then (λ h. comes (taken (h .0) (done (h .1 .3) (room (h .1 .4 .0) (h .1 .4 .1) (h .1 .4 .2)))))
+      then (λ h. comes (check (h .1) (λ e. omega arith)))
       then tt
 
-  -- Both directions, for every code; none above 16 comes back.
+  -- Both directions, for every code; none above 17 comes back.
   pub exactly : (k : ℕ) → (code (back c) ≡ k) ↔ When k
   exactly k = (
     (λ e. subst When e (when (given c))),

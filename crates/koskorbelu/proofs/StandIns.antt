@@ -8,8 +8,8 @@ use Rattle.meaning.specs.Report.{Free}
 use Rattle.meaning.specs.Decide.{isFree}
 use Rattle.meaning.specs.Reading.{State, Run, readBy}
 use Rattle.meaning.proofs.Decided.{free-iff}
-use Rattle.sheet.specs.Table.{WellFormed}
-use Rattle.sheet.proofs.Tests.{failed-iff}
+use Rattle.sheet.specs.Given.{WellFormed}
+use Rattle.layout.proofs.Tests.{failed-iff}
 use Rattle.reader.specs.Answer.{Outcome}
 use Rattle.koskorbelu.specs.Demands.{Call, back, code, visits, grammar, Answers, Demand2}
 use Rattle.koskorbelu.proofs.Demand1.{told-so, given}

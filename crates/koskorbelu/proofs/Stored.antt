@@ -8,9 +8,9 @@ use lib.ListN.{length, take}
 use lib.Seq.{take-at}
 use Rattle.meaning.specs.Grammar.{Trees, no-trees, Answer, ok}
 use Rattle.meaning.specs.Rules.{Reads}
-use Rattle.sheet.specs.Table.{rulesOf}
-use Rattle.sheet.specs.Check.{READ}
-use Rattle.sheet.proofs.Accepting.{rule-count}
+use Rattle.layout.specs.Table.{rulesOf}
+use Rattle.layout.specs.Layout.{READ}
+use Rattle.layout.proofs.Laying.{rule-count}
 use Rattle.stored.specs.Stored.{recordsOf, storedLength, storedOf}
 use Rattle.stored.specs.WellFormed.{wellFormedOf}
 use Rattle.stored.specs.Nested.{Nested}
@@ -73,7 +73,7 @@ module _ (c : Call) where
     few-bytes = omega (arith, the-tree .few)
 
     few-rules : rulesOf (c .table) ≤ 256
-    few-rules = omega (arith, taken .sheet .few-rules)
+    few-rules = omega (arith, taken .sheet .laid .few-rules)
 
     short-line : length (c .line) < 256 ^ positionWidth
     short-line = omega (arith, taken .short)

@@ -14,10 +14,11 @@ use Rattle.meaning.specs.Reading.{recall, visited, visit, readBy, read}
 use Rattle.meaning.specs.Reading as reading
 use Rattle.meaning.specs.Report.{bound}
 use Rattle.meaning.proofs.Choose.{by-test-twice}
-use Rattle.sheet.specs.Table.{lengthOf, nodesOf, rulesOf, rootOf, formula, kindOf, fieldOf, nodeOf, grammarOf}
-use Rattle.sheet.specs.Check.{READ, firstFault, rootFault, fieldsFit, faultOf, nodeFault, checkOf, Accepted}
+use Rattle.layout.specs.Table.{lengthOf, nodesOf, rulesOf, rootOf, formula, kindOf, fieldOf, nodeOf, grammarOf}
+use Rattle.layout.specs.Layout.{READ, firstFault, rootFault, fieldsFit, faultOf, nodeFault, layoutOf}
+use Rattle.sheet.specs.Check.{loopFault, checkOf, Accepted}
 use Rattle.sheet.proofs.Exact.{accepted-iff}
-use Rattle.sheet.proofs.Worked.{tableA, tableB, tableUnused}
+use Rattle.layout.proofs.Worked.{tableA, tableB, tableUnused}
 use Rattle.stored.specs.Stored.{recordsOf, numberOf, inBytes, recordBytes, treesBytes, storedLength, headBytes, storedOf}
 use Rattle.stored.proofs.Bytes.{length-stored}
 use Rattle.reader.specs.declared.Reading.{Reading}
@@ -189,7 +190,7 @@ all-hold (l ∷ ls) h = (holds l (head-eq-of-cons-eq h), all-hold ls (tail-eq-of
 
 all-computed : map computed worked ≡ map wanted worked
 unfolding worked roomy matched wrap fits look after byte joined second otherwise reading.denied repeatFrom repeated wrapped apply longer attempted grow firstAttempt useLive keep
-    counted useRule recall visited visit readBy read emptyNodes ledTo ledRules isFree checkOf firstFault rootFault nodeFault faultOf fieldsFit lengthOf
+    counted useRule recall visited visit readBy read emptyNodes ledTo ledRules isFree checkOf loopFault layoutOf firstFault rootFault nodeFault faultOf fieldsFit lengthOf
     nodesOf rulesOf rootOf formula kindOf fieldOf nodeOf grammarOf recordsOf numberOf inBytes recordBytes treesBytes headBytes storedOf
 all-computed = refl
 

@@ -9,9 +9,11 @@ use Rattle.meaning.specs.Grammar.{Grammar, rule, Trees, Answer, fail, ok}
 use Rattle.meaning.specs.Rules.{Plain, Reads}
 use Rattle.meaning.specs.Report.{Free, bound}
 use Rattle.meaning.specs.Reading.{State, made, Run, readBy, read}
-use Rattle.sheet.specs.Table.{nodesOf, grammarOf, WellFormed}
-use Rattle.sheet.specs.Check.{READ}
+use Rattle.layout.specs.Table.{nodesOf, grammarOf}
+use Rattle.layout.specs.Layout.{READ}
+use Rattle.sheet.specs.Check.{LOOP}
 use Rattle.sheet.specs.Given as sheet
+use Rattle.sheet.specs.Given.{WellFormed}
 use Rattle.stored.specs.Stored.{recordsOf, storedLength, storedOf}
 use Rattle.reader.specs.Answer.{LINE, ALLOW, WORK, EFFORT, DEEP, FAIL, REST, RECORDS, ROOM, longestLine, mostAllowance, mostRecords, positionWidth, Outcome, numbers, workNeeded, cleared}
 use Rattle.reader.specs.Answer.{turnedAway, readingOf}
@@ -46,11 +48,11 @@ run c = read (grammar c) (c .line) (c .allowance)
 abbrev pub needed : Call → ℕ
 needed c = workNeeded (c .allowance) (nodesOf (c .table)) (length (c .line))
 
--- 01: "Codes 1 to 10 return zeros else and change nothing."
+-- 01: "Codes 1 to 10 return zeros else and change nothing." 02, W-209, of LOOP: "else it answers as codes 1 to 10 do".
 abbrev pub away : Call → (code place : ℕ) → Outcome
 away c code place = turnedAway code place (c .work) (c .room)
 
--- 01: "On READ and from 11 on, the first numbers of the working room, as many as the formula says, are zero and the rest as found"; "Only READ writes the room".
+-- 01: "On READ and from 11 on", which is up to 16, "the first numbers of the working room, as many as the formula says, are zero and the rest as found"; "Only READ writes the room".
 abbrev pub ended : Call → (code place matched visits records : ℕ) → Outcome
 ended c code place matched visits records = record { reading = numbers code place matched visits records; work = cleared (needed c) (c .work); room = c .room }
 
@@ -78,14 +80,15 @@ pub data Came (c : Call) : Outcome → Type 0 where
   deep : {p : ℕ} {s : State} → run c ≡ Run.deep p s → Came c (ended c DEEP p 0 (made (c .allowance) s) 0)
   done : {r : Answer} {s : State} {o : Outcome} → run c ≡ Run.done r s → Ended c (made (c .allowance) s) r o → Came c o
 
--- No condition of the first ten rows holds: the call is not turned away before the line is read.
+-- No condition of a row before EFFORT holds: the call is not turned away before the line is read.
 pub record Taken (c : Call) : Type 0 where
   pub sheet : WellFormed (c .table)
   pub short : length (c .line) ≤ longestLine
   pub allowed : (c .allowance ≢ 0) × (c .allowance ≤ mostAllowance)
   pub lent : needed c ≤ length (c .work)
 
--- 01's table of codes: when each is given, with the five numbers and what is then in the working numbers and in the room. A row's condition holds, and no earlier row's does.
+-- 01's table of codes, with LOOP between FIELD and LINE: when each is given, with the five numbers and what is then in the working numbers and in the room. A row's
+-- condition holds, and no earlier row's does.
 pub data Given (c : Call) : Outcome → Type 0 where
   check : {code place : ℕ} → sheet.Given (c .table) code place → code ≢ READ → Given c (away c code place)
   line : WellFormed (c .table) → longestLine < length (c .line) → Given c (away c LINE 0)
@@ -96,7 +99,7 @@ pub data Given (c : Call) : Outcome → Type 0 where
 -- Demand 1: "Every call ends with a named answer, for every file, line, allowance and buffer size, damaged ones included. Each refusal is given exactly when 01 says so,
 -- and what it returns and leaves in every buffer is fixed there."
 pub record Demand1 (c : Call) (o : Outcome) : Type 0 where
-  pub named : code o ≤ ROOM
+  pub named : code o ≤ LOOP
   pub given : Given c o
   pub only : (p : Outcome) → Given c p → p ≡ o
 

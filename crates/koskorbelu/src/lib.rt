@@ -6,15 +6,16 @@
 // What a reader must believe: specs/Demands (what the three demands say, over the public reading's definition alone) and specs/Face
 // (which numbers stand where in an answer).
 // What is proved of it:
-//   proofs/Demand1    every call is answered by exactly one row of 01's table of codes, with that row's numbers and buffers
-//   proofs/Rows       the same row by row: each code comes back exactly when 01 says
-//   proofs/Demand2    match, tree and visits are those of document 003's rules; no call makes more visits than are allowed
-//   proofs/Demand3    free sheets: the ceiling on visits, never EFFORT with that allowance, and the plain rules' answer
-//   proofs/StandIns   one outcome alone meets demand 2
-//   proofs/Allowance  a line is read alike with every allowance from its visits on, and refused for effort with every smaller one
-//   proofs/Stored     what a reading leaves in the room is well formed, and the rules' tree is read back from it
-//   proofs/Worked     01's worked lines that are marked P
-//   proofs/Face       a second call's answer equals the first's; what the report calls free is free
+//   proofs/Demand1      every call is answered by exactly one row of 01's table of codes, with that row's numbers and buffers
+//   proofs/Rows         the same row by row: each code comes back exactly when 01 says
+//   proofs/Demand2      match, tree and visits are those of document 003's rules; no call makes more visits than are allowed
+//   proofs/Demand3      free sheets: the ceiling on visits, never EFFORT with that allowance, and the plain rules' answer
+//   proofs/StandIns     one outcome alone meets demand 2
+//   proofs/Allowance    a line is read alike with every allowance from its visits on, and refused for effort with every smaller one
+//   proofs/Stored       what a reading leaves in the room is well formed, and the rules' tree is read back from it
+//   proofs/Repetitions  in an accepted table a repetition's child never matches without consuming, and rep.3 is used in no reading
+//   proofs/Worked       01's worked lines that are marked P
+//   proofs/Face         a second call's answer equals the first's; what the report calls free is free
 
 ghost use mathlib.Core.Path.{_≡_};
 ghost use mathlib.Core.Bool.{true, false};

@@ -1,7 +1,7 @@
 -- What is printed where there is no line to answer.
 use mathlib.Core.List.{List}
 use Prim.Native.Nat.{ℕ}
-use Rattle.sheet.specs.declared.Verdict.{Verdict}
+use Rattle.layout.specs.declared.Verdict.{Verdict}
 use Rattle.answers.specs.Quoted.{bytes}
 use Rattle.answers.specs.Printed.{refusalText}
 

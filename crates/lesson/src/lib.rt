@@ -2,8 +2,8 @@
 mod lines;
 mod load;
 
+use layout::Verdict;
 use page::Page;
-use sheet::Verdict;
 ghost use mathlib.Core.Path.{_≡_};
 ghost use mathlib.Core.Bool.{cond};
 ghost use Prim.Native.Nat.{_≤_};

@@ -121,6 +121,10 @@ module _ (g : Grammar) where
     empty-complete (of-first {a = a} h) i le v = or-inl _ _ (empty-at a (omega arith) (empty-complete h))
     empty-complete (of-second {a = a} {b = b} h) i le v = or-inr (getD es a false) _ (empty-at b (omega arith) (empty-complete h))
 
+    -- The nodes that may be empty.
+    pub node-empty-iff : (i : ℕ) → i < length (g .nodes) → (getD (emptyNodes g) i false ≡ true) ↔ MayBeEmpty g (node g i)
+    node-empty-iff i h = (empty-sound i, λ d. empty-at i h (empty-complete d))
+
     -- The marks of the report.
     pub empty-iff : (a : ℕ) → a < length (g .roots) → (getD (emptyRules g) a false ≡ true) ↔ MayBeEmpty g (root g a)
     unfolding emptyRules

@@ -96,6 +96,10 @@ module _ (g : Grammar) (line : List ℕ) where
       ends-counted _ _ _ (s .left) x s (visited g line true (visit g line true d) l i x) (λ e. tt)
       (λ n e. of-recall (visit g line true d) l (of-visit d l) i x (record { left = n; kept = s .kept }) (look (s .kept) i x) refl)
 
+  -- One visit, where what is kept is right: it stays so.
+  pub visit-plain : (d : ℕ) (l : List Note) (i x : ℕ) (s : State) → Right (s .kept) → All (λ r t. Plain g line (node g i) x r × Right (t .kept)) (visit g line true d l i x s)
+  visit-plain d l i x s o = all-map {P = Visits i x s} (visit g line true d l i x s) (of-visit d l i x s) (λ r t h. let k = h o in (k .plain, k .right))
+
   -- The whole reading: nothing is kept at first.
   pub read-plain : (allowance : ℕ) → All (λ r s. Plain g line (rule 0) 0 r) (readBy g line true allowance)
   unfolding readBy look

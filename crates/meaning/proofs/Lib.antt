@@ -17,6 +17,7 @@ pub mod Effort
 pub mod Spans
 pub mod Answered
 pub mod Free
+pub mod Repeating
 pub mod Pairs
 pub mod Lower
 pub mod Ceiling

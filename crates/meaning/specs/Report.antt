@@ -1,4 +1,5 @@
--- 01, "The report": which nodes may be empty, what a node starts with, and, by 02's W-202, which rules are reachable and which grammars are free.
+-- 01, "The report": which nodes may be empty, what a node starts with, and, by 02's W-202, which rules are reachable and which grammars are free;
+-- and by 02's W-209 which repetitions repeat nothing.
 use Prim.Native.Nat.{ℕ, _+_, _*_, _<_}
 use mathlib.Core.List.{List}
 use lib.ListN.{length}
@@ -13,6 +14,14 @@ pub data MayBeEmpty (g : Grammar) : Node → Type 0 where
   of-seq : {a b : ℕ} → MayBeEmpty g (node g a) → MayBeEmpty g (node g b) → MayBeEmpty g (seq a b)
   of-first : {a b : ℕ} → MayBeEmpty g (node g a) → MayBeEmpty g (choice a b)
   of-second : {a b : ℕ} → MayBeEmpty g (node g b) → MayBeEmpty g (choice a b)
+
+-- 02, W-209: "A repetition whose child may be empty".
+pub data RepeatsNothing (g : Grammar) : Node → Type 0 where
+  repeats : {a : ℕ} → MayBeEmpty g (node g a) → RepeatsNothing g (rep a)
+
+-- No node of the grammar is one, whether or not it can be reached.
+pub record Consuming (g : Grammar) : Type 0 where
+  pub none : (i : ℕ) → i < length (g .nodes) → RepeatsNothing g (node g i) → ⊥
 
 -- 01: "starts with its child (not, repetition), both children (choice), its first child, and also its second if the first may be empty (sequence)".
 pub data Starts (g : Grammar) : Node → Node → Type 0 where

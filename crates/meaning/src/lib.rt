@@ -3,6 +3,7 @@
 // specs/Grammar, Rules, Reading and Report are what a reader must believe: the words of documents 01 and 003.
 // specs/Decide computes which grammars are free; proofs/Decided shows that it says what Report says.
 // proofs/ shows that the reading is the one that the rules describe; proofs/Claims puts it together.
+// proofs/Repeating: in a grammar without repetitions of nothing a repetition's child consumes, so that rep.3 is used in no reading.
 // proofs/Choose and proofs/Sets have small laws that all crates share: what a test decides, and numbers written into a list.
 
 ghost use mathlib.Core.Path.{_≡_};

@@ -9,8 +9,9 @@ use lib.Seq.{getD-set-same, getD-set-other, sets, length-sets}
 use lib.Dec.{ltb}
 use Rattle.meaning.specs.Grammar.{fail, ok, look}
 use Rattle.meaning.specs.Reading.{State, Run, effort, deep, done, visit, useRule, readBy, read}
-use Rattle.sheet.specs.Table.{nodesOf, rulesOf, nodeAt, grammarOf}
-use Rattle.sheet.proofs.Accepting.{well-formed}
+use Rattle.layout.specs.Table.{nodesOf, rulesOf, nodeAt, grammarOf}
+use Rattle.layout.proofs.Laying.{well-laid}
+use Rattle.sheet.proofs.Accepting.{laid}
 use Rattle.cells.specs.Arena.{Arena}
 use Rattle.cells.proofs.Frame.{arena-below}
 use Rattle.visits.specs.Given.{Given, lent, nodesIn, rootIn, keepsIn, baseIn, roomIn, Fit}
@@ -26,7 +27,7 @@ abbrev first : ℕ → State
 first allowance = record { left = allowance; kept = [] }
 
 pub some-rule : {table line w : List ℕ} {allowance : ℕ} {free : Bool} → Startable table line w allowance free → 0 < rulesOf table
-some-rule {table} s = well-formed table (s .fitting .accepted) .some-rule
+some-rule {table} s = well-laid table (laid table (s .fitting .accepted)) .some-rule
 
 -- From the words w₀, with no cell in use and no visit made.
 module _ (table line w₀ w : List ℕ) (allowance flag at : ℕ) (free : Bool) (s : Startable table line w₀ allowance free) (ef : ltb 0 flag ≡ free) (ea : at ≡ nodeAt (rulesOf table) 0) (ew : w ≡ sets w₀ 2042 (0 ∷ 0 ∷ [])) where
@@ -46,7 +47,7 @@ module _ (table line w₀ w : List ℕ) (allowance flag at : ℕ) (free : Bool) 
   above i h = ap (λ l. getD l i 0) ew ∙ getD-set-other (set w₀ 2042 0) 2043 i 0 0 (omega arith) ∙ getD-set-other w₀ 2042 i 0 0 (omega arith)
 
   fit : Fit given line
-  fit = record { accepted = s .fitting .accepted; first = ea; short = s .fitting .short; allowance = s .fitting .allowed }
+  fit = record { laid = laid _ (s .fitting .accepted); first = ea; short = s .fitting .short; allowance = s .fitting .allowed }
 
   zero-at : keepsIn given ≡ true → (i : ℕ) → baseIn given ≤ i → i < roomIn given line → getD w i 0 ≡ 0
   zero-at k i a b = above i (omega arith) ∙ s .kept (sym ef ∙ k) i a b

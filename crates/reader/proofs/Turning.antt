@@ -11,9 +11,10 @@ use lib.Dec.{ltb}
 use borrow.Author.Tests.{lt-ltb, le-ltb, eq-eqb, ne-eqb, ltb-true, ltb-false}
 use Rattle.meaning.specs.Decide.{isFree}
 use Rattle.meaning.specs.Reading.{read}
-use Rattle.sheet.specs.Table.{nodesOf, grammarOf}
+use Rattle.layout.specs.Table.{nodesOf, grammarOf}
 use Rattle.sheet.specs.Check.{checkOf}
-use Rattle.sheet.proofs.Accepting.{well-formed}
+use Rattle.layout.proofs.Laying.{well-laid}
+use Rattle.sheet.proofs.Accepting.{laid}
 use Rattle.cells.specs.Arena.{Arena}
 use Rattle.reader.specs.declared.Reading.{Reading}
 use Rattle.reader.specs.Answer.{LINE, ALLOW, WORK, longestLine, mostAllowance, numbers, workNeeded, cleared, runOutcome, readingOf, Leaves}
@@ -57,7 +58,7 @@ module _ (whole : Bool) (table line : List ℕ) (allowance : ℕ) (work room : L
 
 -- The words of a reading, from the first to the last: looked at for the report, kept answers cleared, made ready for cells, visited, cleared.
 module _ (table line : List ℕ) (allowance from needed : ℕ) (free : Bool) (w₀ w₁ w₂ w₃ : List ℕ) (f : Fitting table line w₀ allowance) (is : needed ≡ workNeeded allowance (nodesOf table) (length line))
-    (l₁ : length w₁ ≡ length w₀) (rest : (i : ℕ) → 3 * nodesOf table ≤ i → getD w₁ i 0 ≡ getD w₀ i 0) (ef : from ≡ cond free (2048 + 4 * allowance) needed)
+    (l₁ : length w₁ ≡ length w₀) (rest : (i : ℕ) → 2 * nodesOf table ≤ i → getD w₁ i 0 ≡ getD w₀ i 0) (ef : from ≡ cond free (2048 + 4 * allowance) needed)
     (c₂ : Filled w₁ w₂ from needed (λ i. 0)) (e₃ : w₃ ≡ sets w₂ 2045 (0 ∷ 0 ∷ 0 ∷ [])) where
   others : (i : ℕ) → 2048 ≤ i → getD w₃ i 0 ≡ getD w₂ i 0
   others i h =
@@ -71,7 +72,7 @@ module _ (table line : List ℕ) (allowance from needed : ℕ) (free : Bool) (w�
 
   pub past-ready : (i : ℕ) → needed ≤ i → getD w₃ i 0 ≡ getD w₀ i 0
   past-ready i h =
-      let n = well-formed table (f .accepted) .few-nodes in
+      let n = well-laid table (laid table (f .accepted)) .few-nodes in
       others i (omega arith) ∙ c₂ .past i h ∙ rest i (omega arith)
 
   kept-zero : free ≡ true → (i : ℕ) → 2048 + 4 * allowance ≤ i → i < needed → getD w₃ i 0 ≡ 0

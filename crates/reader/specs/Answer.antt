@@ -9,7 +9,7 @@ use Rattle.meaning.specs.Grammar.{Trees, fail, ok}
 pub use Rattle.meaning.specs.Reading.{EFFORT, DEEP}
 pub use Rattle.visits.specs.Given.{longestLine, mostAllowance, workNeeded}
 use Rattle.meaning.specs.Reading.{made, Run, effort, deep, done, read}
-use Rattle.sheet.specs.Table.{nodesOf, grammarOf}
+use Rattle.layout.specs.Table.{nodesOf, grammarOf}
 use Rattle.sheet.specs.Check.{checkOf}
 use Rattle.stored.specs.Stored.{recordsOf, storedLength, storedOf}
 use Rattle.reader.specs.declared.Reading.{Reading}
@@ -71,11 +71,11 @@ runOutcome whole long allowance (deep p s) work room = record { reading = number
 runOutcome whole long allowance (done fail s) work room = record { reading = numbers FAIL 0 0 (made allowance s) 0; work = work; room = room }
 runOutcome whole long allowance (done (ok e ts) s) work room = matchOutcome whole long e ts (made allowance s) work room
 
--- 01: "Codes 1 to 10 return zeros else and change nothing."
+-- 01: "Codes 1 to 10 return zeros else and change nothing." So does LOOP, which the check gives.
 abbrev pub turnedAway : (code place : ℕ) → (work room : List ℕ) → Outcome
 turnedAway code place work room = record { reading = numbers code place 0 0 0; work = work; room = room }
 
--- 01's table of codes, in its order; whole asks for the whole line.
+-- 01's table of codes, in its order, with LOOP among the check's; whole asks for the whole line.
 unfoldable pub readingOf : (whole : Bool) (table line : List ℕ) (allowance : ℕ) (work room : List ℕ) → Outcome
 readingOf whole table line allowance work room =
     cond (ltb 0 (checkOf table .code)) (turnedAway (checkOf table .code) (checkOf table .place) work room)

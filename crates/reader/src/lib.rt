@@ -2,7 +2,7 @@
 //
 // In go the table, the line, the allowance, working numbers and room for the stored reading; out come code, place, matched length, visits and
 // records, exactly as 01's table of codes has them (specs/Answer, readingOf). No table, line, allowance or buffer is asked to be good: each
-// refusal is an answer. Codes 1 to 10 change nothing; else the first working numbers, as many as 01's formula says, are zero, and only a
+// refusal is an answer. Codes 1 to 10 and 17 change nothing; else the first working numbers, as many as 01's formula says, are zero, and only a
 // reading (code 0) writes the room: the stored reading at its front.
 // The reader relies on the check's promise alone for every node that it visits.
 ghost use mathlib.Core.Path.{_≡_};
@@ -11,7 +11,8 @@ ghost use Prim.Native.Nat.{ℕ, _+_, _*_, _<_, _≤_};
 ghost use lib.ListN.{length};
 ghost use lib.Dec.{ltb};
 ghost use Rattle.meaning.specs.Reading.{read};
-ghost use Rattle.sheet.specs.Table.{nodesOf, grammarOf};
+ghost use Rattle.layout.specs.Table.{nodesOf, grammarOf};
+ghost use Rattle.empties.specs.Empties.{EmptyNodes};
 ghost use Rattle.reader.specs.Answer.{numbers, workNeeded, cleared, runOutcome, readingOf, Leaves};
 ghost use Rattle.visits.specs.Says.{after-visit};
 ghost use Rattle.reader.specs.Steps.{Filled, Fitting, Startable, Tells, Visiting, Finishable, Finished};
@@ -71,7 +72,7 @@ fn start(table: &[u8], line: &[u8], work: &mut [u32], allowance: u32, free: bool
     ensures numbers { λ r. ⌜ Visiting allowance (length (now (line .entry))) (workNeeded allowance (nodesOf (now (table .entry))) (length (now (line .entry)))) (now (work .entry)) (now (work .exit)) (after-visit r (now (work .exit))) ⌝ }
     ensures tells { λ r. ⌜ Tells allowance (length (now (line .entry))) (now (work .exit)) (after-visit r (now (work .exit))) (read (grammarOf (now (table .entry))) (now (line .entry)) allowance) ⌝ }
 {
-    let first = sheet::first_node(table) as u32;
+    let first = layout::first_node(table) as u32;
     let given = [allowance, flag(free), first];
     let mut answer = 0u64;
     visits::no_visits(work);
@@ -166,7 +167,7 @@ fn kept_from(free: bool, base: usize, needed: usize) -> usize
     needed
 }
 
-// Reads a line that nothing turns away; needed is 01's number of working numbers.
+// Reads a line that nothing turns away; needed is 01's number of working numbers, and the nodes that may be empty are marked.
 fn read_line(
     table: &[u8],
     line: &[u8],
@@ -175,11 +176,12 @@ fn read_line(
     room: &mut [u8],
     whole: bool,
     needed: usize,
+    marks: &[u64; 8],
 ) -> Reading
-    requires { ⌜ Fitting (now table) (now line) (now work) allowance × (needed ≡ workNeeded allowance (nodesOf (now table)) (length (now line))) ⌝ }
+    requires { ⌜ Fitting (now table) (now line) (now work) allowance × (needed ≡ workNeeded allowance (nodesOf (now table)) (length (now line))) × EmptyNodes (grammarOf (now table)) (now marks) ⌝ }
     ensures { λ r. ⌜ Leaves (runOutcome whole (length (now (line .entry))) allowance (read (grammarOf (now (table .entry))) (now (line .entry)) allowance) (cleared needed (now (work .entry))) (now (room .entry))) r (now (work .exit)) (now (room .exit)) ⌝ }
 {
-    let free = report::is_free(table, work);
+    let free = report::is_free(table, work, marks);
     let from = kept_from(free, 2048 + 4 * allowance as usize, needed);
     clear(work, from, needed);
     cells::no_cells(work);
@@ -221,7 +223,8 @@ fn read_by(
 ) -> Reading
     ensures { λ r. ⌜ Leaves (readingOf whole (now (table .entry)) (now (line .entry)) allowance (now (work .entry)) (now (room .entry))) r (now (work .exit)) (now (room .exit)) ⌝ }
 {
-    let v = sheet::check(table);
+    let mut marks = [0u64; 8];
+    let v = sheet::examine(table, &mut marks);
     if v.code != sheet::READ {
         return turned_away(v.code as u64, v.place as u64);
     }
@@ -234,11 +237,20 @@ fn read_by(
     if MOST_ALLOWANCE < allowance {
         return turned_away(ALLOW, 0);
     }
-    let needed = work_needed(allowance as usize, sheet::node_count(table), line.len());
+    let needed = work_needed(allowance as usize, layout::node_count(table), line.len());
     if work.len() < needed {
         return turned_away(WORK, 0);
     }
-    read_line(table, line, allowance as u32, work, room, whole, needed)
+    read_line(
+        table,
+        line,
+        allowance as u32,
+        work,
+        room,
+        whole,
+        needed,
+        &marks,
+    )
 }
 
 // The prefix reading: the match may end before the line does.

@@ -13,12 +13,14 @@ use Rattle.bits.proofs.Laws.{is-mask-of}
 use Rattle.meaning.specs.Grammar.{Grammar}
 use Rattle.meaning.specs.Decide.{emptyRules, ledRules}
 use Rattle.meaning.proofs.Decided.{empty-iff, recursive-iff}
-use Rattle.sheet.specs.Table.{each, grammarOf}
+use Rattle.layout.specs.Table.{each, grammarOf}
 use Rattle.sheet.specs.Check.{Accepted}
-use Rattle.sheet.proofs.Accepting.{well-formed, rule-count, closed, length-each, getD-each}
+use Rattle.layout.proofs.Laying.{well-laid, rule-count, closed, length-each, getD-each}
+use Rattle.empties.specs.Empties.{MaskOf}
+use Rattle.empties.proofs.Once.{together}
+use Rattle.sheet.proofs.Accepting.{laid}
 use Rattle.report.specs.declared.Findings.{Findings}
-use Rattle.report.specs.Report.{MaskOf, Reported}
-use Rattle.report.proofs.Once.{together}
+use Rattle.report.specs.Report.{Reported}
 
 module _ {r : ℕ} {P : ℕ → Type 0} {mask : ℕ} (m : MaskOf r P mask) (few : r ≤ 64) (marks : List Bool) (as-many : length marks ≡ r)
     (right : (a : ℕ) → a < r → (getD marks a false ≡ true) ↔ P a) where
@@ -50,17 +52,17 @@ empty-marks g = length-map (g .roots) _
 
 module _ {t : List ℕ} {x : Findings} (reported : Reported t x) (accepted : Accepted t) where
   few-rules : length (grammarOf t .roots) ≤ 64
-  few-rules = omega (arith, rule-count t, well-formed t accepted .few-rules)
+  few-rules = omega (arith, rule-count t, well-laid t (laid t accepted) .few-rules)
 
   pub computed-empty : x .«may_be_empty» ≡ maskOf (emptyRules (grammarOf t))
-  computed-empty = marked (reported .may-be-empty accepted) few-rules (emptyRules (grammarOf t)) (empty-marks (grammarOf t)) (empty-iff (grammarOf t) (closed t accepted))
+  computed-empty = marked (reported .may-be-empty accepted) few-rules (emptyRules (grammarOf t)) (empty-marks (grammarOf t)) (empty-iff (grammarOf t) (closed t (laid t accepted)))
 
   pub computed-recursive : x .«left_recursive» ≡ maskOf (recursiveRules (grammarOf t))
   unfolding recursiveRules
   computed-recursive =
       marked (reported .left-recursive accepted) few-rules (recursiveRules (grammarOf t)) (length-each _ 0 (length (grammarOf t .roots)))
       (λ a h.
-      let both = recursive-iff (grammarOf t) (closed t accepted) a h in
+      let both = recursive-iff (grammarOf t) (closed t (laid t accepted)) a h in
       let e : 0 + a ≡ a = omega arith in
       let mark : getD (recursiveRules (grammarOf t)) a false ≡ getD (ledRules (grammarOf t) a) a false =
       getD-each (recursive (grammarOf t)) 0 (length (grammarOf t .roots)) a false h ∙ ap (recursive (grammarOf t)) e in

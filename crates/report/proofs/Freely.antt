@@ -12,12 +12,12 @@ use Rattle.meaning.specs.Report.{LeftRecursive, Free}
 use Rattle.meaning.specs.Decide.{isFree}
 use Rattle.meaning.proofs.Decided.{free-iff}
 use Rattle.meaning.proofs.Reached.{free-of-all}
-use Rattle.sheet.specs.Table.{grammarOf}
-use Rattle.sheet.specs.Check.{Accepted}
-use Rattle.sheet.proofs.Accepting.{closed}
+use Rattle.layout.specs.Table.{grammarOf}
+use Rattle.layout.specs.Layout.{Laid}
+use Rattle.layout.proofs.Laying.{closed}
 use Rattle.report.specs.Report.{LeftRules, ReachableRules}
 use Rattle.report.specs.Lent.{AtStart, StartRules, Told, by-none, by-one}
-use Rattle.report.proofs.Once.{together}
+use Rattle.empties.proofs.Once.{together}
 use Rattle.report.proofs.Reaching.{start-reachable}
 
 module _ (g : Grammar) (good : Closed g) (left : ℕ) (l : LeftRules g left) where
@@ -57,6 +57,6 @@ module _ (g : Grammar) (good : Closed g) (left : ℕ) (l : LeftRules g left) whe
       untold some e (by-none none) = some (no-rule left (l .fits) (λ a q. let w = l .sound a q in none a (w .0) (w .1)))
       untold some e (by-one one) = one (λ a h s d. tells .0 e a (m .complete a h s) (l .complete a h d))
 
--- Of an accepted table the computed test says so.
-pub free-said : (t : List ℕ) → Accepted t → {answer : Bool} → answer ≡ isFree (grammarOf t) → (answer ≡ true) ↔ Free (grammarOf t)
+-- Of a table that is laid out well the computed test says so.
+pub free-said : (t : List ℕ) → Laid t → {answer : Bool} → answer ≡ isFree (grammarOf t) → (answer ≡ true) ↔ Free (grammarOf t)
 free-said t a e = rw e (free-iff (grammarOf t) (closed t a))

@@ -1,11 +1,10 @@
 pub mod Words
 pub mod Sets
-pub mod Empties
 pub mod Standing
 pub mod Recursion
 pub mod Reaching
 pub mod Tables
-pub mod Repeat
+pub mod Passes
 pub mod Once
 pub mod Freely
 pub mod Computed

@@ -6,23 +6,11 @@ use Prim.Native.Nat.{ℕ}
 use borrow.Author.Tests.{eqb-true, eqb-false}
 use lib.Dec.{eqb}
 use Rattle.bits.specs.Mask.{has, howMany, least}
-use Rattle.bits.proofs.Laws.{same-mask}
 use Rattle.sheet.specs.Check.{checkOf, Accepted}
+use Rattle.empties.proofs.Once.{together, one-mask}
 use Rattle.report.specs.declared.Findings.{Findings}
-use Rattle.report.specs.Report.{MaskOf, Reported}
+use Rattle.report.specs.Report.{Reported}
 use Rattle.report.specs.Lent.{Answered}
-
--- Two truth values that hold together are one.
-pub together : (x y : Bool) → (x ≡ true → y ≡ true) → (y ≡ true → x ≡ true) → x ≡ y
-together true true f h = refl
-together true false f h = sym (f refl)
-together false true f h = h refl
-together false false f h = refl
-
-one-mask : {r : ℕ} {P : ℕ → Type 0} {x y : ℕ} → MaskOf r P x → MaskOf r P y → x ≡ y
-one-mask {x = x} {y = y} p q =
-    same-mask 64 x y (p .fits) (q .fits)
-    (λ a h. together (has x a) (has y a) (λ e. let w = p .sound a e in q .complete a (w .0) (w .1)) (λ e. let w = q .sound a e in p .complete a (w .0) (w .1)))
 
 -- ---- The report.
 findings : (code place may-be-empty left-recursive how-many lowest : ℕ) (free : Bool) → Findings
@@ -59,5 +47,4 @@ one-answer {t} {before} p q =
     let a = p .used in
     let b = q .used in
     let told : a .told ≡ b .told = together (a .told) (b .told) (λ e. b .tells .1 (a .tells .0 e)) (λ e. a .tells .1 (b .tells .0 e)) in
-    let known : a .known ≡ b .known = one-mask (a .empty-rules) (b .empty-rules) in
-    (p .free ∙ sym (q .free), a .written ∙ rw (told, known) (sym (b .written)))
+    (p .free ∙ sym (q .free), a .written ∙ rw told (sym (b .written)))

@@ -1,5 +1,5 @@
 -- Which rules are reachable: what a node uses anywhere is what is put down for it, and rounds from rule 0 on find every rule that a reachable rule's root uses.
-use mathlib.Core.Path.{_≡_, sym, ap, _∙_}
+use mathlib.Core.Path.{_≡_, refl, sym, _∙_}
 use mathlib.Core.Bool.{true}
 use Prim.Native.Nat.{ℕ, _^_, _≤_, _<_}
 use native.Mathlib.Omega.{arith}
@@ -9,8 +9,7 @@ use Rattle.meaning.specs.Grammar.{Node, rule, Grammar, node, rootOf, Closed}
 use Rattle.meaning.specs.Report.{Chain, here, on, Child, to-first, to-second, to-one, to-other, to-denied, to-repeated, Reachable, start, used}
 use Rattle.meaning.proofs.Chains.{first}
 use Rattle.meaning.proofs.Reached.{met-root, met-rule, met-leads}
-use Rattle.report.specs.declared.Facts.{Facts}
-use Rattle.report.specs.Pass.{factsOf, usedIn, UsesSettled, spread}
+use Rattle.report.specs.Pass.{everyNode, Settled, spread}
 use Rattle.report.specs.Report.{ReachableRules}
 use Rattle.report.specs.Lent.{AtStart, itself, StartRules}
 use Rattle.report.proofs.Sets.{spread-keeps, spread-sound, spread-fixed}
@@ -30,21 +29,12 @@ pub record Begun (g : Grammar) (reached : ℕ) : Type 0 where
 pub begun : (g : Grammar) (some : ℕ) → 0 < length (g .roots) → StartRules g some → Begun g some
 begun g some rules m = record { fits = m .fits; first = m .complete 0 rules itself; sound = λ b e. let w = m .sound b e in (w .0, start-reachable g (w .1)) }
 
-module _ (g : Grammar) (closed : Closed g) (few-rules : length (g .roots) ≤ 64) (f : ℕ → Facts) (s : UsesSettled g f) where
-  put : (i : ℕ) → i < length (g .nodes) → f i .starts ≡ factsOf f 0 (node g i) .starts
-  unfolding usedIn
-  put i h = ap (λ (x : Facts). x .starts) (s i h)
-
-  -- Every node is put down as one that may be empty, so that every child counts.
-  all-empty : (i : ℕ) → i < length (g .nodes) → f i .empty ≡ true
-  unfolding usedIn
-  all-empty i h = ap (λ (x : Facts). x .empty) (s i h)
-
+module _ (g : Grammar) (closed : Closed g) (few-rules : length (g .roots) ≤ 64) (f : ℕ → ℕ) (s : Settled g everyNode f) where
   -- ---- What is put down for a node, it uses.
   abbrev Use : Node → ℕ → Type 0
   Use p b = (b < length (g .roots)) × Chain (Child g) p (rule b)
 
-  child-of : (p : Node) (k : ℕ) → Counts f p k → Child g p (node g k)
+  child-of : (p : Node) (k : ℕ) → Counts everyNode p k → Child g p (node g k)
   child-of p k in-not = to-denied
   child-of p k in-rep = to-repeated
   child-of p k in-choice = to-one
@@ -52,20 +42,20 @@ module _ (g : Grammar) (closed : Closed g) (few-rules : length (g .roots) ≤ 64
   child-of p k in-first = to-first
   child-of p k (in-second e) = to-second
 
-  node-uses : (i : ℕ) → i < length (g .nodes) → (b : ℕ) → has (f i .starts) b ≡ true → Use (node g i) b
-  node-uses = put-sound g closed few-rules f 0 put Use (λ b l. (l, here)) (λ p k b w c u. (u .0, first (child-of p k c) (u .1)))
+  node-uses : (i : ℕ) → i < length (g .nodes) → (b : ℕ) → has (f i) b ≡ true → Use (node g i) b
+  node-uses = put-sound g closed few-rules everyNode f s Use (λ b l. (l, here)) (λ p k b w c u. (u .0, first (child-of p k c) (u .1)))
 
   -- ---- What a node uses is put down for it.
   module _ (set : ℕ) where
     abbrev Inside : Node → Type 0
-    Inside = Within g closed few-rules f 0 put (λ b. has set b ≡ true)
+    Inside = Within g closed few-rules everyNode f s (λ b. has set b ≡ true)
 
-    counted : {p : Node} {k : ℕ} → Counts f p k → Inside p → Inside (node g k)
-    counted = within-child g closed few-rules f 0 put
+    counted : {p : Node} {k : ℕ} → Counts everyNode p k → Inside p → Inside (node g k)
+    counted = within-child g closed few-rules everyNode f s
 
     inside-child : {p q : Node} → Child g p q → Inside p → Inside q
     inside-child to-first w = counted in-first w
-    inside-child (to-second {a = i}) w = counted (in-second (all-empty i (w .there .0))) w
+    inside-child to-second w = counted (in-second refl) w
     inside-child to-one w = counted in-choice w
     inside-child to-other w = counted in-other w
     inside-child to-denied w = counted in-not w
@@ -75,10 +65,10 @@ module _ (g : Grammar) (closed : Closed g) (few-rules : length (g .roots) ≤ 64
     inside-all here w = w
     inside-all (on h k) w = inside-child k (inside-all h w)
 
-  uses-found : (i b : ℕ) → i < length (g .nodes) → Chain (Child g) (node g i) (rule b) → has (f i .starts) b ≡ true
+  uses-found : (i b : ℕ) → i < length (g .nodes) → Chain (Child g) (node g i) (rule b) → has (f i) b ≡ true
   uses-found i b h c =
-      within-rule g closed few-rules f 0 put b
-      (inside-all (f i .starts) c (within g closed few-rules f 0 put (λ b. has (f i .starts) b ≡ true) i h (λ b e. e)))
+      within-rule g closed few-rules everyNode f s b
+      (inside-all (f i) c (within g closed few-rules everyNode f s (λ b. has (f i) b ≡ true) i h (λ b e. e)))
 
   -- ---- Rounds from the start of rule 0 on.
   abbrev r : ℕ
@@ -86,7 +76,7 @@ module _ (g : Grammar) (closed : Closed g) (few-rules : length (g .roots) ≤ 64
 
   -- The rules that the root of a rule uses.
   abbrev row : ℕ → ℕ
-  row a = f (rootOf g a) .starts
+  row a = f (rootOf g a)
 
   next-reached : (a b : ℕ) → a < r → (a < r) × Reachable g a → has (row a) b ≡ true → (b < r) × Reachable g b
   next-reached a b l h e = let u = node-uses (rootOf g a) (closed .roots a l) b e in (u .0, used (h .1) (u .1))

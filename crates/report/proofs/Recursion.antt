@@ -1,7 +1,7 @@
 -- Which rules are left-recursive: those from whose root the rules used at a node's start lead back to the same rule. And where they lead from rule 0.
 use mathlib.Core.Path.{_≡_, refl, sym, ap, _∙_}
 use mathlib.Core.Bool.{Bool, true, _&&_, _||_, or-true, and-eq-true-iff}
-use mathlib.Core.Logic.{⊎-elim}
+use mathlib.Core.Logic.{_↔_, ⊎-elim}
 use mathlib.Mathlib.Data.Bool.Basic.{or-inl}
 use Prim.Native.Nat.{ℕ, suc, _^_, _≤_, _<_}
 use borrow.Author.Tests.{ltb-true, lt-ltb, eqb-true}
@@ -14,40 +14,31 @@ use Rattle.meaning.specs.Report.{MayBeEmpty, Starts, by-not, by-rep, by-choice,
 use Rattle.meaning.proofs.Chains.{first, then, round}
 use Rattle.meaning.proofs.Choose.{or-split}
 use Rattle.meaning.proofs.Through.{from-start, joins, all-chains}
-use Rattle.report.specs.declared.Facts.{Facts}
-use Rattle.report.specs.Pass.{factsOf, Gathered, led, Settled}
+use Rattle.report.specs.Pass.{led, Settled}
+use Rattle.empties.specs.Pass.{Gathered}
 use Rattle.report.specs.Report.{LeftRules}
 use Rattle.report.specs.Lent.{AtStart, itself, StartRules}
-use Rattle.report.proofs.Empties.{empty-sound, empty-found}
 use Rattle.report.proofs.Standing.{Counts, in-not, in-rep, in-choice, in-other, in-first, in-second, put-sound, Within, within, within-child, within-rule}
 
-module _ (g : Grammar) (closed : Closed g) (few-rules : length (g .roots) ≤ 64) (f : ℕ → Facts) (s : Settled g f) where
-  may-be-empty : (i : ℕ) → i < length (g .nodes) → f i .empty ≡ true → MayBeEmpty g (node g i)
-  may-be-empty = empty-sound g closed (s .known) f (s .settled) (s .empty-rules .sound)
-
-  known-empty : (i : ℕ) → i < length (g .nodes) → MayBeEmpty g (node g i) → f i .empty ≡ true
-  known-empty = empty-found g closed (s .known) f (s .settled) (λ a h e. s .empty-rules .complete a h (may-be-empty (rootOf g a) (closed .roots a h) e))
-
-  put : (i : ℕ) → i < length (g .nodes) → f i .starts ≡ factsOf f (s .known) (node g i) .starts
-  put i h = ap (λ (x : Facts). x .starts) (s .settled i h)
-
+module _ (g : Grammar) (closed : Closed g) (few-rules : length (g .roots) ≤ 64) (may : ℕ → Bool)
+    (right : (i : ℕ) → i < length (g .nodes) → (may i ≡ true) ↔ MayBeEmpty g (node g i)) (f : ℕ → ℕ) (s : Settled g may f) where
   -- ---- What stands at a node's start is led to.
   abbrev Use : Node → ℕ → Type 0
   Use p b = (b < length (g .roots)) × Leads g p (rule b)
 
-  start-of : (p : Node) (k : ℕ) → Below g (length (g .nodes)) p → Counts f p k → Starts g p (node g k)
+  start-of : (p : Node) (k : ℕ) → Below g (length (g .nodes)) p → Counts may p k → Starts g p (node g k)
   start-of p k w in-not = by-not
   start-of p k w in-rep = by-rep
   start-of p k w in-choice = by-choice
   start-of p k w in-other = by-other
   start-of p k w in-first = by-first
-  start-of p k w (in-second {a = a} e) = by-second (may-be-empty a (w .0) e)
+  start-of p k w (in-second {a = a} e) = by-second (right a (w .0) .0 e)
 
-  node-leads : (i : ℕ) → i < length (g .nodes) → (b : ℕ) → has (f i .starts) b ≡ true → Use (node g i) b
-  node-leads = put-sound g closed few-rules f (s .known) put Use (λ b l. (l, here)) (λ p k b w c u. (u .0, first (start-of p k w c) (u .1)))
+  node-leads : (i : ℕ) → i < length (g .nodes) → (b : ℕ) → has (f i) b ≡ true → Use (node g i) b
+  node-leads = put-sound g closed few-rules may f s Use (λ b l. (l, here)) (λ p k b w c u. (u .0, first (start-of p k w c) (u .1)))
 
   -- ---- From rule to rule: a step from a to b where a use of b stands at the start of the root of a.
-  module _ (step : ℕ → ℕ → Bool) (is-step : (a b : ℕ) → a < length (g .roots) → step a b ≡ has (f (rootOf g a) .starts) b) where
+  module _ (step : ℕ → ℕ → Bool) (is-step : (a b : ℕ) → a < length (g .roots) → step a b ≡ has (f (rootOf g a)) b) where
     abbrev r : ℕ
     r = length (g .roots)
 
@@ -70,23 +61,23 @@ module _ (g : Grammar) (closed : Closed g) (few-rules : length (g .roots) ≤ 64
     chain-leads = all-chains (led step) turn Reached from-step link r
 
     -- What is used is led to.
-    starts-with : (a b : ℕ) → a < r → has (f (rootOf g a) .starts) b ≡ true → led step r a b ≡ true
+    starts-with : (a b : ℕ) → a < r → has (f (rootOf g a)) b ≡ true → led step r a b ≡ true
     unfolding led
     starts-with a b h e = from-start (led step) turn r a b (is-step a b h ∙ e)
 
     module _ (a : ℕ) (a-there : a < r) where
       -- At the node's start stands nothing but what a chain leads to.
       abbrev Seen : Node → Type 0
-      Seen = Within g closed few-rules f (s .known) put (λ b. led step r a b ≡ true)
+      Seen = Within g closed few-rules may f s (λ b. led step r a b ≡ true)
 
-      counted : {p : Node} {k : ℕ} → Counts f p k → Seen p → Seen (node g k)
-      counted = within-child g closed few-rules f (s .known) put
+      counted : {p : Node} {k : ℕ} → Counts may p k → Seen p → Seen (node g k)
+      counted = within-child g closed few-rules may f s
 
-      root-seen : (c : ℕ) → c < r → ((b : ℕ) → has (f (rootOf g c) .starts) b ≡ true → led step r a b ≡ true) → Seen (root g c)
-      root-seen c h = within g closed few-rules f (s .known) put (λ b. led step r a b ≡ true) (rootOf g c) (closed .roots c h)
+      root-seen : (c : ℕ) → c < r → ((b : ℕ) → has (f (rootOf g c)) b ≡ true → led step r a b ≡ true) → Seen (root g c)
+      root-seen c h = within g closed few-rules may f s (λ b. led step r a b ≡ true) (rootOf g c) (closed .roots c h)
 
       used : (c : ℕ) → Seen (rule c) → led step r a c ≡ true
-      used = within-rule g closed few-rules f (s .known) put
+      used = within-rule g closed few-rules may f s
 
       seen-next : {p q : Node} → Starts g p q → Seen p → Seen q
       seen-next by-not seen = counted in-not seen
@@ -94,7 +85,7 @@ module _ (g : Grammar) (closed : Closed g) (few-rules : length (g .roots) ≤ 64
       seen-next by-choice seen = counted in-choice seen
       seen-next by-other seen = counted in-other seen
       seen-next by-first seen = counted in-first seen
-      seen-next (by-second {a = i} d) seen = counted (in-second (known-empty i (seen .there .0) d)) seen
+      seen-next (by-second {a = i} d) seen = counted (in-second (right i (seen .there .0) .1 d)) seen
       seen-next (by-rule {a = c}) seen =
           let h = seen .there in root-seen c h (λ b e. joins (led step) turn r c h a b (used c seen) (starts-with c b h e))
 

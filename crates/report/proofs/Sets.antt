@@ -1,16 +1,15 @@
--- Sets of rules: rules added one by one, the closure of each rule's set by way of one rule after the other, and one set spread by the others.
+-- Sets of rules: the closure of each rule's set by way of one rule after the other, and one set spread by the others.
 use mathlib.Core.Path.{_≡_, refl, sym, ap, _∙_}
-use mathlib.Core.Bool.{Bool, true, false, _&&_, _||_, or-true, or-false, and-eq-true-iff}
+use mathlib.Core.Bool.{Bool, true, false, _&&_, _||_, or-false, and-eq-true-iff}
 use mathlib.Core.List.{List}
-use mathlib.Core.Logic.{_≢_, ⊎-elim}
+use mathlib.Core.Logic.{⊎-elim}
 use mathlib.Mathlib.Data.Bool.Basic.{or-inl, or-inr}
 use Prim.Native.Nat.{ℕ, zero, suc, _+_, _≤_, _<_}
 use native.Mathlib.Nat.{eq-or-lt-of-le}
 use native.Mathlib.Numerals.{add-one}
 use native.Mathlib.Omega.{arith}
 use borrow.Author.Count.{below-more}
-use borrow.Author.Tests.{ltb-true, ltb-false, lt-ltb, le-ltb, eqb-true, eqb-false}
-use lib.Dec.{eqb, ltb}
+use lib.Dec.{eqb}
 use lib.Bits.{or-zero-l, or-zero-r}
 use lib.ListN.{length, getD, set}
 use lib.Seq.{getD-set-same, getD-set-other}
@@ -18,49 +17,11 @@ use Rattle.bits.specs.Mask.{has}
 use Rattle.bits.proofs.Digits.{has-or, le-or, added}
 use Rattle.bits.proofs.Laws.{has-none}
 use Rattle.meaning.proofs.Choose.{by-test, or-split}
-use Rattle.report.specs.Pass.{only, Gathered, inSet, widened, led, spread}
+use Rattle.report.specs.Pass.{only, inSet, widened, led, spread}
 
 -- ---- Bits.
 pub has-only : (a b : ℕ) → a < 64 → has (only a) b ≡ eqb b a
 has-only a b h = rw or-zero-l at (added 0 a h .bits b) ∙ ap (λ (x : Bool). x || eqb b a) (has-none b)
-
--- ---- Rules gathered one by one.
-below-next : (a k : ℕ) → a ≢ k → ltb a (k + 1) ≡ ltb a k
-below-next a k other = by (ltb a k) refl
-  where
-    by : (b : Bool) → ltb a k ≡ b → ltb a (k + 1) ≡ ltb a k
-    by true e = let l = ltb-true a k e in rw e (lt-ltb a (k + 1) (omega arith))
-    by false e = let l = ltb-false a k e in rw e (le-ltb a (k + 1) (omega arith))
-
-module _ (test : ℕ → Bool) (base : ℕ) where
-  pub gathered-none : Gathered test base 0 base
-  unfolding Gathered
-  gathered-none a = rw (le-ltb a 0 (omega arith)) (sym (or-false (has base a)))
-
-  module _ (k mask : ℕ) (so-far : Gathered test base k mask) where
-    others : (a : ℕ) → eqb a k ≡ false → has mask a ≡ (has base a || ltb a (k + 1) && test a)
-    unfolding Gathered
-    others a e = rw (below-next a k (eqb-false a k e)) (so-far a)
-
-    pub gathered-out : test k ≡ false → Gathered test base (k + 1) mask
-    unfolding Gathered
-    gathered-out out a = by (eqb a k) refl
-      where
-        by : (b : Bool) → eqb a k ≡ b → has mask a ≡ (has base a || ltb a (k + 1) && test a)
-        by true e =
-            let same = eqb-true a k e in
-            so-far a ∙ rw (same, out, le-ltb k k (omega arith), lt-ltb k (k + 1) (omega arith))
-        by false e = others a e
-
-    pub gathered-in : (more : ℕ) → test k ≡ true → ((a : ℕ) → has more a ≡ (has mask a || eqb a k)) → Gathered test base (k + 1) more
-    unfolding Gathered
-    gathered-in more into h a = h a ∙ by (eqb a k) refl
-      where
-        by : (b : Bool) → eqb a k ≡ b → (has mask a || eqb a k) ≡ (has base a || ltb a (k + 1) && test a)
-        by true e =
-            let same = eqb-true a k e in
-            rw e (or-true (has mask a) ∙ rw (same, into, lt-ltb k (k + 1) (omega arith)) (sym (or-true (has base k))))
-        by false e = rw e (or-false (has mask a) ∙ others a e)
 
 -- ---- The closure.
 has-widened : (row k set b : ℕ) → has (widened row k set) b ≡ (has set b || has set k && has row b)

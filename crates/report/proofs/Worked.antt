@@ -8,15 +8,19 @@ use Prim.Native.Nat.{ℕ}
 use Rattle.bits.specs.Mask.{digit, has, howMany, least, maskOf}
 use Rattle.meaning.specs.Decide.{emptyNodes, emptyRules, ledTo, ledRules, reachable, isFree}
 use Rattle.meaning.proofs.Decided.{free-iff}
-use Rattle.sheet.proofs.Accepting.{closed}
-use Rattle.sheet.specs.Table.{grammarOf}
-use Rattle.sheet.specs.Check.{READ, verdict, checkOf, Accepted}
-use Rattle.sheet.specs.declared.Verdict.{Verdict}
-use Rattle.sheet.proofs.Worked.{tableA, sheetA, tableB, sheetB, tableUnused, sheetUnused, sheets}
+use Rattle.layout.proofs.Laying.{closed}
+use Rattle.layout.specs.declared.Verdict.{Verdict}
+use Rattle.layout.specs.Table.{grammarOf}
+use Rattle.layout.specs.Layout.{READ, verdict}
+use Rattle.sheet.specs.Check.{checkOf, Accepted}
+use Rattle.sheet.proofs.Accepting.{laid}
+use Rattle.layout.proofs.Worked.{tableA, sheetA, tableB, sheetB, tableUnused, sheetUnused}
+use Rattle.layout.proofs.Worked as layout
+use Rattle.sheet.proofs.Worked.{sheets}
 use Rattle.report.specs.declared.Findings.{Findings}
 use Rattle.report.specs.Report.{Reported}
 use Rattle.report.specs.Lent.{Answered}
-use Rattle.report.proofs.Once.{together}
+use Rattle.empties.proofs.Once.{together}
 use Rattle.report.proofs.Computed.{recursiveRules, computed-empty, computed-recursive}
 
 code : Verdict → ℕ
@@ -53,7 +57,7 @@ module _ (t : List ℕ) (g : Grammar) (accepted : checkOf t ≡ verdict READ 0) 
 
     free-is : x .free ≡ f
     free-is =
-        let both = free-iff (grammarOf t) (closed t is-accepted) in
+        let both = free-iff (grammarOf t) (closed t (laid t is-accepted)) in
         let said = reported .free is-accepted in
         together (x .free) (isFree (grammarOf t)) (λ e. both .1 (said .0 e)) (λ e. said .1 (both .0 e)) ∙ ap isFree is ∙ s .is-free
 
@@ -75,21 +79,21 @@ module _ (t : List ℕ) (g : Grammar) (accepted : checkOf t ≡ verdict READ 0) 
 -- A has a left-recursive rule at its start, B has none, and the one that B has when a third rule is added is not reachable.
 pub report-A : {x : Findings} → Reported tableA x
     → (x .code ≡ 0) × (x .place ≡ 0) × (x .«may_be_empty» ≡ 0) × (x .«left_recursive» ≡ 1) × (x .«how_many» ≡ 1) × (x .lowest ≡ 0) × (x .free ≡ false)
-report-A = report-is tableA sheetA (sheets .0) (sheets .1) (shown .0)
+report-A = report-is tableA sheetA (sheets .0) (layout.sheets .1) (shown .0)
 
 pub report-B : {x : Findings} → Reported tableB x
     → (x .code ≡ 0) × (x .place ≡ 0) × (x .«may_be_empty» ≡ 0) × (x .«left_recursive» ≡ 0) × (x .«how_many» ≡ 0) × (x .lowest ≡ 64) × (x .free ≡ true)
-report-B = report-is tableB sheetB (sheets .2) (sheets .3) (shown .1)
+report-B = report-is tableB sheetB (sheets .1) (layout.sheets .3) (shown .1)
 
 pub report-unused : {x : Findings} → Reported tableUnused x
     → (x .code ≡ 0) × (x .place ≡ 0) × (x .«may_be_empty» ≡ 0) × (x .«left_recursive» ≡ 4) × (x .«how_many» ≡ 1) × (x .lowest ≡ 2) × (x .free ≡ true)
-report-unused = report-is tableUnused sheetUnused (sheets .4) (sheets .5) (shown .2)
+report-unused = report-is tableUnused sheetUnused (sheets .2) (layout.sheets .5) (shown .2)
 
 pub free-A : {answer : Bool} {before after : List ℕ} → Answered tableA answer before after → answer ≡ false
-free-A = answer-is tableA sheetA (sheets .0) (sheets .1) (shown .0)
+free-A = answer-is tableA sheetA (sheets .0) (layout.sheets .1) (shown .0)
 
 pub free-B : {answer : Bool} {before after : List ℕ} → Answered tableB answer before after → answer ≡ true
-free-B = answer-is tableB sheetB (sheets .2) (sheets .3) (shown .1)
+free-B = answer-is tableB sheetB (sheets .1) (layout.sheets .3) (shown .1)
 
 pub free-unused : {answer : Bool} {before after : List ℕ} → Answered tableUnused answer before after → answer ≡ true
-free-unused = answer-is tableUnused sheetUnused (sheets .4) (sheets .5) (shown .2)
+free-unused = answer-is tableUnused sheetUnused (sheets .2) (layout.sheets .5) (shown .2)

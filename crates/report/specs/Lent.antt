@@ -8,9 +8,9 @@ use lib.ListN.{length, getD}
 use Rattle.meaning.specs.Grammar.{rule, Grammar, root}
 use Rattle.meaning.specs.Report.{Leads, LeftRecursive}
 use Rattle.meaning.specs.Decide.{isFree}
-use Rattle.sheet.specs.Table.{nodesOf, grammarOf}
-use Rattle.report.specs.Report.{MaskOf, EmptyRules}
-use Rattle.report.specs.Pass.{passedAll, usedAll}
+use Rattle.layout.specs.Table.{nodesOf, grammarOf}
+use Rattle.empties.specs.Empties.{MaskOf}
+use Rattle.report.specs.Pass.{startedAll, usedAll}
 
 -- Rule 0, and the rules to a use of which a chain of starts leads from its root.
 pub data AtStart (g : Grammar) : ℕ → Type 0 where
@@ -32,15 +32,13 @@ pub record Judged (t : List ℕ) (answer : Bool) (before after : List ℕ) : Typ
   pub tells : (told ≡ true) ↔ Told (grammarOf t)
   pub written : after ≡ cond told before (usedAll t before)
 
--- Of the working numbers three for each node of the table are used, and say what the last pass found. The others are as they were.
+-- Of the working numbers two for each node of the table are used, and say what the last pass found. The others are as they were.
 pub record Used (t : List ℕ) (before after : List ℕ) : Type 0 where
   pub same-length : length after ≡ length before
-  pub rest : (i : ℕ) → 3 * nodesOf t ≤ i → getD after i 0 ≡ getD before i 0
-  pub known : ℕ
-  pub empty-rules : EmptyRules (grammarOf t) known
+  pub rest : (i : ℕ) → 2 * nodesOf t ≤ i → getD after i 0 ≡ getD before i 0
   pub told : Bool
   pub tells : (told ≡ true) ↔ Told (grammarOf t)
-  pub written : after ≡ cond told (passedAll t known before) (usedAll t before)
+  pub written : after ≡ cond told (startedAll t before) (usedAll t before)
 
 -- 02, W-202: "Free shall mean that no rule reachable from rule 0 [..] is left-recursive". The answer, and the working numbers after it.
 pub record Answered (t : List ℕ) (answer : Bool) (before after : List ℕ) : Type 0 where

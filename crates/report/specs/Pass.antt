@@ -3,87 +3,74 @@ use mathlib.Core.Path.{_≡_}
 use mathlib.Core.Bool.{Bool, true, false, _&&_, _||_, cond}
 use mathlib.Core.List.{List, [], _∷_}
 use Prim.Native.Nat.{ℕ, zero, suc, _+_, _*_, _/_, _%_, _^_, _<_}
-use lib.Dec.{eqb, ltb}
 use lib.Bits.{bitOr}
 use lib.ListN.{length, getD}
 use lib.Seq.{sets}
-use Rattle.bits.specs.Mask.{has, one}
+use Rattle.bits.specs.Mask.{has}
 use Rattle.meaning.specs.Grammar.{Node, empty, range, rule, seq, choice, not, rep, Grammar, node, rootOf}
-use Rattle.sheet.specs.Table.{nodesOf, grammarOf}
-use Rattle.report.specs.declared.Facts.{Facts}
-use Rattle.report.specs.Report.{EmptyRules}
+use Rattle.meaning.specs.Decide.{emptyNodes}
+use Rattle.layout.specs.Table.{nodesOf, grammarOf}
 
--- ---- What is known of a node: the rules that it uses at its start, no rule's root gone into, and whether it may be empty.
-abbrev pub facts : ℕ → Bool → Facts
-facts s e = record { starts = s; empty = e }
-
+-- ---- The rules that a node uses at its start, no rule's root gone into.
 -- The set that has rule a alone: 1 shifted left by a.
 abbrev pub only : ℕ → ℕ
 only a = (1 * 2 ^ a) % 2 ^ 64
 
 -- One node, then another: the second is at the start too where the first may be empty.
-unfoldable pub inRow : Facts → Facts → Facts
-inRow x y = cond (x .empty) (facts (bitOr (x .starts) (y .starts)) (y .empty)) x
+unfoldable pub inRow : (may-be-empty : Bool) (first second : ℕ) → ℕ
+inRow e x y = cond e (bitOr x y) x
 
-unfoldable pub oneOf : Facts → Facts → Facts
-oneOf x y = facts (bitOr (x .starts) (y .starts)) (x .empty || y .empty)
+-- By the nodes that may be empty and by what is put down for the children.
+unfoldable pub startsOf : (may-be-empty : ℕ → Bool) (starts : ℕ → ℕ) → Node → ℕ
+startsOf e f empty = 0
+startsOf e f (range lo hi) = 0
+startsOf e f (rule a) = only a
+startsOf e f (seq a b) = inRow (e a) (f a) (f b)
+startsOf e f (choice a b) = bitOr (f a) (f b)
+startsOf e f (not a) = f a
+startsOf e f (rep a) = f a
 
--- What is known of a node, by what is known of its children and by the rules that are known to be empty.
-unfoldable pub factsOf : (ℕ → Facts) → (known : ℕ) → Node → Facts
-factsOf f known empty = facts 0 true
-factsOf f known (range lo hi) = facts 0 false
-factsOf f known (rule a) = facts (only a) (has known a)
-factsOf f known (seq a b) = inRow (f a) (f b)
-factsOf f known (choice a b) = oneOf (f a) (f b)
-factsOf f known (not a) = facts (f a .starts) true
-factsOf f known (rep a) = facts (f a .starts) true
+-- The nodes of a table that may be empty. Every node: then the rules at a node's start are those that it uses anywhere.
+unfoldable pub emptyNode : (table : List ℕ) → ℕ → Bool
+emptyNode t i = getD (emptyNodes (grammarOf t)) i false
 
--- The rules that a node uses anywhere, by those of its children: every node is taken as one that may be empty, so that each child stands at its start.
-unfoldable pub usedIn : (ℕ → Facts) → Node → Facts
-usedIn f p = facts (factsOf f 0 p .starts) true
+abbrev pub everyNode : ℕ → Bool
+everyNode i = true
 
--- ---- Three working numbers a node: the lower and the higher half of the rules at its start, and 1 where it may be empty.
-unfoldable pub factsAt : List ℕ → ℕ → Facts
-factsAt w i = facts (getD w (3 * i + 1) 0 * 2 ^ 32 + getD w (3 * i) 0) (eqb (getD w (3 * i + 2) 0) 1)
+-- ---- Two working numbers a node: the lower and the higher half of the rules at its start.
+unfoldable pub startsAt : List ℕ → ℕ → ℕ
+startsAt w i = getD w (2 * i + 1) 0 * 2 ^ 32 + getD w (2 * i) 0
 
-abbrev pub threeOf : Facts → List ℕ
-threeOf x = x .starts % 2 ^ 32 ∷ x .starts / 2 ^ 32 ∷ one (x .empty) ∷ []
+abbrev pub halvesOf : ℕ → List ℕ
+halvesOf x = x % 2 ^ 32 ∷ x / 2 ^ 32 ∷ []
 
-unfoldable pub put : List ℕ → ℕ → Facts → List ℕ
-put w i x = sets w (3 * i) (threeOf x)
+unfoldable pub put : List ℕ → ℕ → ℕ → List ℕ
+put w i x = sets w (2 * i) (halvesOf x)
 
--- The working numbers after a pass over the first nodes, by what is known of a node from its children.
-unfoldable pub passed : Grammar → (of : (ℕ → Facts) → Node → Facts) → List ℕ → ℕ → List ℕ
-passed g of w zero = w
-passed g of w (suc i) = let v = passed g of w i in put v i (of (factsAt v) (node g i))
+-- The working numbers after a pass over the first nodes.
+unfoldable pub passed : Grammar → (may-be-empty : ℕ → Bool) → List ℕ → ℕ → List ℕ
+passed g e w zero = w
+passed g e w (suc i) = let v = passed g e w i in put v i (startsOf e (startsAt v) (node g i))
 
--- The working numbers after a pass over a table.
-abbrev pub passedAll : (table : List ℕ) (known : ℕ) → List ℕ → List ℕ
-passedAll t known w = passed (grammarOf t) (λ f. factsOf f known) w (nodesOf t)
+-- After a pass over a table: over its starts, and over all that its nodes use.
+abbrev pub passedAll : (table : List ℕ) (may-be-empty : ℕ → Bool) → List ℕ → List ℕ
+passedAll t e w = passed (grammarOf t) e w (nodesOf t)
 
--- The same after a pass that puts down the rules used anywhere.
+abbrev pub startedAll : (table : List ℕ) → List ℕ → List ℕ
+startedAll t w = passedAll t (emptyNode t) w
+
 abbrev pub usedAll : (table : List ℕ) → List ℕ → List ℕ
-usedAll t w = passed (grammarOf t) usedIn w (nodesOf t)
+usedAll t w = passedAll t everyNode w
 
 -- What they say of the root of a rule.
-abbrev pub rootFacts : (table : List ℕ) → List ℕ → ℕ → Facts
-rootFacts t w a = factsAt w (rootOf (grammarOf t) a)
+abbrev pub rootStarts : (table : List ℕ) → List ℕ → ℕ → ℕ
+rootStarts t w a = startsAt w (rootOf (grammarOf t) a)
 
--- What they say in the end: of each node, by a mask of the rules that may be empty, what its children's numbers say.
-pub record Settled (g : Grammar) (f : ℕ → Facts) : Type 0 where
-  pub known : ℕ
-  pub empty-rules : EmptyRules g known
-  pub settled : (i : ℕ) → i < length (g .nodes) → f i ≡ factsOf f known (node g i)
-
--- Of each node the rules that it uses anywhere, as its children's numbers say.
-abbrev pub UsesSettled : Grammar → (ℕ → Facts) → Type 0
-UsesSettled g f = (i : ℕ) → i < length (g .nodes) → f i ≡ usedIn f (node g i)
+-- What they say in the end: of each node what its children's numbers say.
+abbrev pub Settled : Grammar → (may-be-empty : ℕ → Bool) → (starts : ℕ → ℕ) → Type 0
+Settled g e f = (i : ℕ) → i < length (g .nodes) → f i ≡ startsOf e f (node g i)
 
 -- ---- Sets of rules.
--- To the set base are added those of the first k rules that pass a test.
-unfoldable pub Gathered : (test : ℕ → Bool) → (base k mask : ℕ) → Type 0
-Gathered test base k mask = (a : ℕ) → has mask a ≡ (has base a || ltb a k && test a)
-
 -- A set for each rule: b is in the set of a.
 abbrev pub inSet : List ℕ → ℕ → ℕ → Bool
 inSet to a b = has (getD to a 0) b

@@ -3,24 +3,15 @@ use mathlib.Core.Path.{_≡_}
 use mathlib.Core.Bool.{true, false}
 use mathlib.Core.List.{List}
 use mathlib.Core.Logic.{_↔_}
-use Prim.Native.Nat.{ℕ, _^_, _<_}
+use Prim.Native.Nat.{ℕ}
 use lib.ListN.{length}
 use Rattle.bits.specs.Mask.{has, howMany, least}
-use Rattle.meaning.specs.Grammar.{Grammar, root}
-use Rattle.meaning.specs.Report.{MayBeEmpty, LeftRecursive, Reachable, Free}
-use Rattle.sheet.specs.Table.{grammarOf}
+use Rattle.meaning.specs.Grammar.{Grammar}
+use Rattle.meaning.specs.Report.{LeftRecursive, Reachable, Free}
+use Rattle.layout.specs.Table.{grammarOf}
+use Rattle.empties.specs.Empties.{MaskOf, EmptyRules}
 use Rattle.sheet.specs.Check.{checkOf, Accepted}
 use Rattle.report.specs.declared.Findings.{Findings}
-
--- 01: "a 64-bit mask of rules [..] (bit i for rule i)": of the first r rules those of which P holds.
-pub record MaskOf (r : ℕ) (P : ℕ → Type 0) (mask : ℕ) : Type 0 where
-  pub fits : mask < 2 ^ 64
-  pub sound : (a : ℕ) → has mask a ≡ true → (a < r) × P a
-  pub complete : (a : ℕ) → a < r → P a → has mask a ≡ true
-
--- 01: "rules whose root may be empty".
-abbrev pub EmptyRules : Grammar → ℕ → Type 0
-EmptyRules g = MaskOf (length (g .roots)) (λ a. MayBeEmpty g (root g a))
 
 -- 01: "a like mask of left-recursive rules".
 abbrev pub LeftRules : Grammar → ℕ → Type 0

@@ -1,14 +1,14 @@
 // The report on a table: which rules may be empty, which are left-recursive, and whether the sheet is free (document 01, "The report", and 02's W-202).
 //
 // `report` takes any bytes, asks nothing of its caller and writes nowhere. Of a table that the check refuses it gives the check's code and place.
-// `is_free` asks for an accepted table and for working numbers, as many as three for each node that a table may have. Of those it uses three for each
-// node that the table has, and leaves the others as they were. It is for the reader, which has such numbers at hand: a local array would have to be cleared.
+// `is_free` asks for a table that is laid out well, for the marks of the nodes that may be empty (the crate `empties`), and for working numbers, as many as two
+// for each node that a table may have. Of those it uses two for each node that the table has, and leaves the others as they were. It is for the reader, which
+// has such numbers at hand: a local array would have to be cleared.
 //
 // How it is worked out:
-// - A pass goes once over the nodes, children first. Of each it puts down the rules that are used at its start, no rule's root gone into, and whether
-//   it may be empty, by the rules that are known to be empty so far.
-// - Then the rules whose root turned out to be empty are known too. Passes are repeated as long as there are new ones: the mask grows each time.
-// - The last pass gives for each rule the rules at the start of its root. These sets are closed by turns through each rule. A rule that is in its own
+// - Which nodes and rules may be empty is known once the check is made (`sheet::examine`).
+// - A pass goes once over the nodes, children first. Of each it puts down the rules that are used at its start, no rule's root gone into.
+// - That gives for each rule the rules at the start of its root. These sets are closed by turns through each rule. A rule that is in its own
 //   set is left-recursive.
 // - A sheet is free if none of them is reachable from rule 0. Where there is none, or where rule 0 leads to one at its start, nothing more is worked out.
 //   Else one more pass puts down of each node the rules that it uses anywhere: those at its start if every node could be empty. Then rounds, from rule 0 on:
@@ -20,10 +20,9 @@
 //   proofs/Computed    both masks are those that meaning's Decide computes
 //   proofs/Worked      01's sheets A and B, and B with a rule that nobody uses
 //   proofs/Words       what is put down for a node is read there; a pass settles every node
-//   proofs/Empties     a pass finds nothing but what may be empty; one that finds nothing new has found all
-//   proofs/Repeat      the passes put together
-//   proofs/Sets        rules gathered one by one, one turn of the closing, and one round from rule 0 on
-//   proofs/Tables      the grammar's nodes and roots, by the numbers that the code reads
+//   proofs/Passes      what the passes over a table leave
+//   proofs/Sets        one turn of the closing of sets of rules, and one round from rule 0 on
+//   proofs/Tables      a table's nodes and roots, by the numbers that the code reads
 //   proofs/Standing    what is put down for a node, by the children that count: at its start, or all of them
 //   proofs/Recursion   what stands at a node's start is led to, and what is led to is in the closed sets
 //   proofs/Reaching    what a node uses anywhere, and that the rounds from rule 0 on find the reachable rules
@@ -33,16 +32,19 @@ ghost use mathlib.Core.Path.{_≡_};
 ghost use mathlib.Core.Bool.{true};
 ghost use Prim.Native.Nat.{ℕ, _+_, _*_, _<_, _≤_};
 ghost use lib.ListN.{length, getD};
-ghost use Rattle.bits.specs.Mask.{has, one};
+ghost use Rattle.bits.specs.Mask.{has};
+ghost use Rattle.bits.specs.Marks.{marked};
 ghost use Rattle.meaning.specs.Grammar.{node};
-ghost use Rattle.sheet.specs.Table.{nodesOf, mostNodes, mostRules, grammarOf};
-ghost use Rattle.sheet.specs.Check.{Accepted};
-ghost use Rattle.report.specs.Pass.{facts, only, inRow, oneOf, factsOf, factsAt, put, passedAll, usedAll, rootFacts, Settled, UsesSettled, Gathered, inSet, widened, led, spread};
-ghost use Rattle.report.specs.Report.{EmptyRules, LeftRules, ReachableRules, Reported};
+ghost use Rattle.layout.specs.Table.{nodesOf, mostNodes, mostRules, grammarOf};
+ghost use Rattle.layout.specs.Layout.{Laid, HasNode};
+ghost use Rattle.empties.specs.Empties.{EmptyNodes};
+ghost use Rattle.empties.specs.Pass.{Gathered};
+ghost use Rattle.report.specs.Pass.{only, inRow, startsOf, startsAt, put, passedAll, startedAll, usedAll, rootStarts, everyNode, emptyNode, Settled, inSet, widened, led, spread};
+ghost use Rattle.report.specs.Report.{LeftRules, ReachableRules, Reported};
 ghost use Rattle.report.specs.Lent.{StartRules, Judged, Answered};
 
 // How many working numbers `is_free` asks for.
-pub const SCRATCH: usize = 3 * sheet::MOST_NODES;
+pub const SCRATCH: usize = 2 * layout::MOST_NODES;
 
 // What the report gives: 01's code and place, the rules whose root may be empty and those that are left-recursive (bit i for rule i),
 // how many of the second there are, and the lowest of them, 64 if there is none; and whether no rule that rule 0 reaches is left-recursive.
@@ -56,184 +58,93 @@ pub struct Findings {
     pub free: bool,
 }
 
-// The rules whose root may be empty, those that are left-recursive, and those that stand at the start of rule 0, itself among them.
-struct RuleSets {
-    may_be_empty: u64,
-    left_recursive: u64,
-    at_start: u64,
-}
-
 // The rules to which chains of starts lead: from themselves, and from rule 0.
 struct Led {
     left_recursive: u64,
     at_start: u64,
 }
 
-// What is known of a node: the rules that it uses at its start, no rule's root gone into, and whether it may be empty.
-struct Facts {
-    starts: u64,
-    empty: bool,
-}
-
-fn flag(b: bool) -> u32
-    ensures { λ r. ⌜ r ≡ one b ⌝ }
+// The rules that are put down for node i, by its two working numbers.
+fn starts_at(scratch: &[u32], i: usize) -> u64
+    requires { ⌜ 2 * i + 1 < length (now scratch) ⌝ }
+    ensures { λ x. ⌜ x ≡ startsAt (now (scratch .entry)) i ⌝ }
 {
-    if b { 1 } else { 0 }
+    let at = 2 * i;
+    bits::from_halves(scratch[at], scratch[at + 1])
 }
 
-// What is known of node i, by its three working numbers.
-fn facts_at(scratch: &[u32], i: usize) -> Facts
-    requires { ⌜ 3 * i + 2 < length (now scratch) ⌝ }
-    ensures { λ x. ⌜ x ≡ factsAt (now (scratch .entry)) i ⌝ }
+fn put(scratch: &mut [u32], i: usize, starts: u64)
+    requires { ⌜ 2 * i + 1 < length (now scratch) ⌝ }
+    ensures { λ _. ⌜ now (scratch .exit) ≡ put (now (scratch .entry)) i starts ⌝ }
 {
-    let at = 3 * i;
-    Facts {
-        starts: bits::from_halves(scratch[at], scratch[at + 1]),
-        empty: scratch[at + 2] == 1,
-    }
+    let at = 2 * i;
+    scratch[at] = bits::low_half(starts);
+    scratch[at + 1] = bits::high_half(starts);
 }
 
-fn put(scratch: &mut [u32], i: usize, x: Facts)
-    requires { ⌜ 3 * i + 2 < length (now scratch) ⌝ }
-    ensures { λ _. ⌜ now (scratch .exit) ≡ put (now (scratch .entry)) i x ⌝ }
-{
-    let at = 3 * i;
-    scratch[at] = bits::low_half(x.starts);
-    scratch[at + 1] = bits::high_half(x.starts);
-    scratch[at + 2] = flag(x.empty);
-}
-
-// A use of rule a, where the rules known to be empty are given.
-fn of_rule(known: u64, a: usize) -> Facts
+fn of_rule(a: usize) -> u64
     requires { ⌜ a < 64 ⌝ }
-    ensures { λ x. ⌜ x ≡ facts (only a) (has known a) ⌝ }
+    ensures { λ x. ⌜ x ≡ only a ⌝ }
 {
-    Facts {
-        starts: 1u64 << a,
-        empty: bits::has_rule(known, a),
-    }
+    1u64 << a
 }
 
 // One node, then another: the second is at the start too where the first may be empty.
-fn in_row(x: Facts, y: Facts) -> Facts
-    ensures { λ r. ⌜ r ≡ inRow x y ⌝ }
+fn in_row(empty: bool, x: u64, y: u64) -> u64
+    ensures { λ r. ⌜ r ≡ inRow empty x y ⌝ }
 {
-    if x.empty {
-        return Facts {
-            starts: x.starts | y.starts,
-            empty: y.empty,
-        };
+    if empty {
+        return x | y;
     }
     x
 }
 
-fn one_of(x: Facts, y: Facts) -> Facts
-    ensures { λ r. ⌜ r ≡ oneOf x y ⌝ }
+// The rules at the start of node i, by what is put down for its children and by the nodes that are marked as empty.
+fn of_node(table: &[u8], first: usize, scratch: &[u32], marks: &[u64; 8], i: usize) -> u64
+    requires { ⌜ HasNode (now table) first i × (2 * mostNodes ≤ length (now scratch)) ⌝ }
+    ensures { λ x. ⌜ x ≡ startsOf (marked (now (marks .entry))) (startsAt (now (scratch .entry))) (node (grammarOf (now (table .entry))) i) ⌝ }
 {
-    Facts {
-        starts: x.starts | y.starts,
-        empty: if x.empty { true } else { y.empty },
-    }
-}
-
-// A node that may be empty whatever its child is.
-fn around(x: Facts) -> Facts
-    ensures { λ r. ⌜ r ≡ facts (x .starts) true ⌝ }
-{
-    Facts {
-        starts: x.starts,
-        empty: true,
-    }
-}
-
-// What is known of node i, by the working numbers of its children and by the rules that are known to be empty.
-fn of_node(table: &[u8], scratch: &[u32], known: u64, i: usize) -> Facts
-    requires { ⌜ Accepted (now table) × (i < nodesOf (now table)) × (3 * mostNodes ≤ length (now scratch)) ⌝ }
-    ensures { λ x. ⌜ x ≡ factsOf (factsAt (now (scratch .entry))) known (node (grammarOf (now (table .entry))) i) ⌝ }
-{
-    let a = sheet::field_a(table, i);
-    let b = sheet::field_b(table, i);
-    let kind = sheet::kind(table, i);
+    let a = layout::field_a_from(table, first, i);
+    let b = layout::field_b_from(table, first, i);
+    let kind = layout::kind_from(table, first, i);
     match kind {
-        0 => Facts {
-            starts: 0,
-            empty: true,
-        },
-        1 => Facts {
-            starts: 0,
-            empty: false,
-        },
-        2 => of_rule(known, a),
-        3 => in_row(facts_at(scratch, a), facts_at(scratch, b)),
-        4 => one_of(facts_at(scratch, a), facts_at(scratch, b)),
-        5 => around(facts_at(scratch, a)),
-        6 => around(facts_at(scratch, a)),
-        _ => Facts {
-            starts: 0,
-            empty: true,
-        },
+        2 => of_rule(a),
+        3 => in_row(
+            bits::marked(marks, a),
+            starts_at(scratch, a),
+            starts_at(scratch, b),
+        ),
+        4 => starts_at(scratch, a) | starts_at(scratch, b),
+        5 => starts_at(scratch, a),
+        6 => starts_at(scratch, a),
+        _ => 0,
     }
 }
 
-// One pass over the nodes: what is known of each, three working numbers a node.
-fn pass(table: &[u8], scratch: &mut [u32], known: u64)
-    requires { ⌜ Accepted (now table) × (3 * mostNodes ≤ length (now scratch)) ⌝ }
-    ensures { λ _. ⌜ now (scratch .exit) ≡ passedAll (now (table .entry)) known (now (scratch .entry)) ⌝ }
+// One pass over the nodes: the rules at the start of each, two working numbers a node.
+fn pass(table: &[u8], scratch: &mut [u32], marks: &[u64; 8])
+    requires { ⌜ Laid (now table) × (2 * mostNodes ≤ length (now scratch)) ⌝ }
+    ensures { λ _. ⌜ now (scratch .exit) ≡ passedAll (now (table .entry)) (marked (now (marks .entry))) (now (scratch .entry)) ⌝ }
 {
-    let n = sheet::node_count(table);
+    let n = layout::node_count(table);
+    let first = layout::first_node(table);
     let mut i: usize = 0;
     while i < n {
-        let x = of_node(table, scratch, known, i);
+        let x = of_node(table, first, scratch, marks, i);
         put(scratch, i, x);
         i += 1;
     }
 }
 
-// The rules known to be empty, with those whose root the pass found to be.
-fn gather(table: &[u8], scratch: &[u32], known: u64) -> u64
-    requires { ⌜ Accepted (now table) × (3 * mostNodes ≤ length (now scratch)) ⌝ }
-    ensures { λ more. ⌜ Gathered (λ a. rootFacts (now (table .entry)) (now (scratch .entry)) a .empty) known (length (grammarOf (now (table .entry)) .roots)) more × (known ≤ more) ⌝ }
-{
-    let r = sheet::rule_count(table);
-    let mut more = known;
-    let mut a: usize = 0;
-    while a < r {
-        let x = facts_at(scratch, sheet::root(table, a));
-        if x.empty {
-            more = bits::add_rule(more, a);
-        }
-        a += 1;
-    }
-    more
-}
-
-// The rules whose root may be empty: passes as long as each finds one more.
-fn empty_rules(table: &[u8], scratch: &mut [u32]) -> u64
-    requires { ⌜ Accepted (now table) × (3 * mostNodes ≤ length (now scratch)) ⌝ }
-    ensures { λ known. ⌜ EmptyRules (grammarOf (now (table .entry))) known × (now (scratch .exit) ≡ passedAll (now (table .entry)) known (now (scratch .entry))) ⌝ }
-{
-    let mut known: u64 = 0;
-    let found = loop {
-        pass(table, scratch, known);
-        let more = gather(table, scratch, known);
-        if more == known {
-            break known;
-        }
-        known = more;
-    };
-    found
-}
-
 // For each rule the rules that are used at the start of its root.
 fn steps(table: &[u8], scratch: &[u32], to: &mut [u64; 64])
-    requires { ⌜ Accepted (now table) × (3 * mostNodes ≤ length (now scratch)) × (length (now to) ≡ mostRules) ⌝ }
-    ensures { λ _. ⌜ (length (now (to .exit)) ≡ mostRules) × ((a : ℕ) → a < length (grammarOf (now (table .entry)) .roots) → getD (now (to .exit)) a 0 ≡ rootFacts (now (table .entry)) (now (scratch .entry)) a .starts) ⌝ }
+    requires { ⌜ Laid (now table) × (2 * mostNodes ≤ length (now scratch)) × (length (now to) ≡ mostRules) ⌝ }
+    ensures { λ _. ⌜ (length (now (to .exit)) ≡ mostRules) × ((a : ℕ) → a < length (grammarOf (now (table .entry)) .roots) → getD (now (to .exit)) a 0 ≡ rootStarts (now (table .entry)) (now (scratch .entry)) a) ⌝ }
 {
-    let r = sheet::rule_count(table);
+    let r = layout::rule_count(table);
     let mut a: usize = 0;
     while a < r {
-        let x = facts_at(scratch, sheet::root(table, a));
-        to[a] = x.starts;
+        to[a] = starts_at(scratch, layout::root(table, a));
         a += 1;
     }
 }
@@ -295,10 +206,10 @@ fn led_back(to: &[u64; 64], r: usize) -> u64
 
 // The left-recursive rules and those at the start of rule 0, by the last pass.
 fn chains(table: &[u8], scratch: &[u32]) -> Led
-    requires { ⌜ Accepted (now table) × (3 * mostNodes ≤ length (now scratch)) × Settled (grammarOf (now table)) (factsAt (now scratch)) ⌝ }
+    requires { ⌜ Laid (now table) × (2 * mostNodes ≤ length (now scratch)) × Settled (grammarOf (now table)) (emptyNode (now table)) (startsAt (now scratch)) ⌝ }
     ensures { λ x. ⌜ LeftRules (grammarOf (now (table .entry))) (x .«left_recursive») × StartRules (grammarOf (now (table .entry))) (x .«at_start») ⌝ }
 {
-    let r = sheet::rule_count(table);
+    let r = layout::rule_count(table);
     let mut to = [0u64; 64];
     steps(table, scratch, &mut to);
     close(&mut to, r);
@@ -309,49 +220,34 @@ fn chains(table: &[u8], scratch: &[u32]) -> Led
     }
 }
 
-// All masks of an accepted table.
-fn masks(table: &[u8], scratch: &mut [u32]) -> RuleSets
-    requires { ⌜ Accepted (now table) × (3 * mostNodes ≤ length (now scratch)) ⌝ }
-    ensures { λ x. ⌜ EmptyRules (grammarOf (now (table .entry))) (x .«may_be_empty») × LeftRules (grammarOf (now (table .entry))) (x .«left_recursive») × StartRules (grammarOf (now (table .entry))) (x .«at_start») × (now (scratch .exit) ≡ passedAll (now (table .entry)) (x .«may_be_empty») (now (scratch .entry))) ⌝ }
+// The left-recursive rules and those at the start of rule 0, by the nodes that are marked as empty.
+fn masks(table: &[u8], scratch: &mut [u32], marks: &[u64; 8]) -> Led
+    requires { ⌜ Laid (now table) × EmptyNodes (grammarOf (now table)) (now marks) × (2 * mostNodes ≤ length (now scratch)) ⌝ }
+    ensures { λ x. ⌜ LeftRules (grammarOf (now (table .entry))) (x .«left_recursive») × StartRules (grammarOf (now (table .entry))) (x .«at_start») × (now (scratch .exit) ≡ startedAll (now (table .entry)) (now (scratch .entry))) ⌝ }
 {
-    let may_be_empty = empty_rules(table, scratch);
-    let found = chains(table, scratch);
-    RuleSets {
-        may_be_empty,
-        left_recursive: found.left_recursive,
-        at_start: found.at_start,
-    }
+    pass(table, scratch, marks);
+    chains(table, scratch)
 }
 
-// One pass over the nodes: the rules that each uses anywhere. They are those at its start if every node could be empty, and so each is put down.
+// One pass more: the rules that each node uses anywhere. They are those at its start if every node could be empty, and so each is marked.
 fn pass_uses(table: &[u8], scratch: &mut [u32])
-    requires { ⌜ Accepted (now table) × (3 * mostNodes ≤ length (now scratch)) ⌝ }
+    requires { ⌜ Laid (now table) × (2 * mostNodes ≤ length (now scratch)) ⌝ }
     ensures { λ _. ⌜ now (scratch .exit) ≡ usedAll (now (table .entry)) (now (scratch .entry)) ⌝ }
 {
-    let n = sheet::node_count(table);
-    let mut i: usize = 0;
-    while i < n {
-        let x = of_node(table, scratch, 0, i);
-        let uses = Facts {
-            starts: x.starts,
-            empty: true, // so that what stands behind it counts too
-        };
-        put(scratch, i, uses);
-        i += 1;
-    }
+    let every = [18446744073709551615u64; 8];
+    pass(table, scratch, &every);
 }
 
 // One round: to the rules that are reached, those that the root of each uses.
 fn round(table: &[u8], scratch: &[u32], reached: u64) -> u64
-    requires { ⌜ Accepted (now table) × (3 * mostNodes ≤ length (now scratch)) ⌝ }
-    ensures { λ more. ⌜ more ≡ spread (λ a. rootFacts (now (table .entry)) (now (scratch .entry)) a .starts) reached (length (grammarOf (now (table .entry)) .roots)) ⌝ }
+    requires { ⌜ Laid (now table) × (2 * mostNodes ≤ length (now scratch)) ⌝ }
+    ensures { λ more. ⌜ more ≡ spread (rootStarts (now (table .entry)) (now (scratch .entry))) reached (length (grammarOf (now (table .entry)) .roots)) ⌝ }
 {
-    let r = sheet::rule_count(table);
+    let r = layout::rule_count(table);
     let mut more = reached;
     let mut a: usize = 0;
     while a < r {
-        let x = facts_at(scratch, sheet::root(table, a));
-        more = widened(more, x.starts, a);
+        more = widened(more, starts_at(scratch, layout::root(table, a)), a);
         a += 1;
     }
     more
@@ -359,7 +255,7 @@ fn round(table: &[u8], scratch: &[u32], reached: u64) -> u64
 
 // The reachable rules, by the last pass and by some of them, rule 0 among them: rounds as long as each finds one more.
 fn reachable_rules(table: &[u8], scratch: &[u32], some: u64) -> u64
-    requires { ⌜ Accepted (now table) × (3 * mostNodes ≤ length (now scratch)) × UsesSettled (grammarOf (now table)) (factsAt (now scratch)) × StartRules (grammarOf (now table)) some ⌝ }
+    requires { ⌜ Laid (now table) × (2 * mostNodes ≤ length (now scratch)) × Settled (grammarOf (now table)) everyNode (startsAt (now scratch)) × StartRules (grammarOf (now table)) some ⌝ }
     ensures { λ found. ⌜ ReachableRules (grammarOf (now (table .entry))) found ⌝ }
 {
     let mut reached = some;
@@ -375,7 +271,7 @@ fn reachable_rules(table: &[u8], scratch: &[u32], some: u64) -> u64
 
 // Whether no left-recursive rule is reachable. Where there is none, or one stands at the start of rule 0, the working numbers stay.
 fn none_reached(table: &[u8], scratch: &mut [u32], left_recursive: u64, at_start: u64) -> bool
-    requires { ⌜ Accepted (now table) × (3 * mostNodes ≤ length (now scratch)) × LeftRules (grammarOf (now table)) «left_recursive» × StartRules (grammarOf (now table)) «at_start» ⌝ }
+    requires { ⌜ Laid (now table) × (2 * mostNodes ≤ length (now scratch)) × LeftRules (grammarOf (now table)) «left_recursive» × StartRules (grammarOf (now table)) «at_start» ⌝ }
     ensures { λ answer. ⌜ Judged (now (table .entry)) answer (now (scratch .entry)) (now (scratch .exit)) ⌝ }
 {
     if left_recursive == 0 {
@@ -393,7 +289,8 @@ fn none_reached(table: &[u8], scratch: &mut [u32], left_recursive: u64, at_start
 pub fn report(table: &[u8]) -> Findings
     ensures { λ x. ⌜ Reported (now (table .entry)) x ⌝ }
 {
-    let v = sheet::check(table);
+    let mut marks = [0u64; 8];
+    let v = sheet::examine(table, &mut marks);
     if v.code != sheet::READ {
         return Findings {
             code: v.code,
@@ -406,12 +303,12 @@ pub fn report(table: &[u8]) -> Findings
         };
     }
     let mut scratch = [0u32; SCRATCH];
-    let found = masks(table, &mut scratch);
+    let found = masks(table, &mut scratch, &marks);
     let free = none_reached(table, &mut scratch, found.left_recursive, found.at_start);
     Findings {
         code: v.code,
         place: v.place,
-        may_be_empty: found.may_be_empty,
+        may_be_empty: v.empty_rules,
         left_recursive: found.left_recursive,
         how_many: bits::count(found.left_recursive),
         lowest: bits::lowest(found.left_recursive),
@@ -419,11 +316,11 @@ pub fn report(table: &[u8]) -> Findings
     }
 }
 
-// Whether no reachable rule of an accepted table is left-recursive, for a caller who lends working numbers.
-pub fn is_free(table: &[u8], scratch: &mut [u32]) -> bool
-    requires { ⌜ Accepted (now table) × (3 * mostNodes ≤ length (now scratch)) ⌝ }
+// Whether no reachable rule of a table is left-recursive, for a caller who has the nodes that may be empty and lends working numbers.
+pub fn is_free(table: &[u8], scratch: &mut [u32], marks: &[u64; 8]) -> bool
+    requires { ⌜ Laid (now table) × EmptyNodes (grammarOf (now table)) (now marks) × (2 * mostNodes ≤ length (now scratch)) ⌝ }
     ensures { λ answer. ⌜ Answered (now (table .entry)) answer (now (scratch .entry)) (now (scratch .exit)) ⌝ }
 {
-    let found = masks(table, scratch);
+    let found = masks(table, scratch, marks);
     none_reached(table, scratch, found.left_recursive, found.at_start)
 }

@@ -1,126 +1,27 @@
--- What the check's acceptance says of a table: it is well formed, and its grammar is closed.
-use mathlib.Core.Path.{_≡_, refl, sym, ap, subst, _∙_}
-use mathlib.Core.Logic.{⊎-elim}
+-- What the check's acceptance says of a table: it is well formed, so it is laid out well, and its grammar has no repetition of nothing.
+use mathlib.Core.Path.{_≡_, sym, ap, _∙_}
 use mathlib.Core.List.{List}
-use Prim.Native.Nat.{ℕ, zero, suc, _+_, _*_, _%_, _≤_, _<_}
-use native.Mathlib.Nat.{eq-or-lt-of-le}
-use native.Mathlib.Omega.{arith}
-use lib.ListN.{length, getD}
-use Rattle.meaning.specs.Grammar as grammar
-use Rattle.meaning.specs.Grammar.{Node, empty, range, rule, seq, choice, not, rep, Grammar, node, Below, Closed}
-use Rattle.sheet.specs.declared.Verdict.{Verdict}
-use Rattle.sheet.specs.Table.{nodesOf, mostNodes, rulesOf, mostRules, rootOf, nodeAt, formula, kindOf, fieldOf, aOf, bOf, WellFormed, decode, nodeOf, each, grammarOf}
-use Rattle.sheet.specs.Table.{Fits, is-empty, is-range, is-rule, is-sequence, is-choice, is-not, is-repetition}
-use Rattle.sheet.specs.Check.{READ, checkOf, Accepted}
+use Prim.Native.Nat.{ℕ}
+use Rattle.meaning.specs.Report.{Consuming}
+use Rattle.layout.specs.declared.Verdict.{Verdict}
+use Rattle.layout.specs.Table.{grammarOf}
+use Rattle.layout.specs.Layout.{READ, Laid}
+use Rattle.layout.proofs.Exact.{laid-iff}
+use Rattle.layout.proofs.Laying.{node-count}
+use Rattle.sheet.specs.Check.{checkOf, Accepted}
+use Rattle.sheet.specs.Given.{WellFormed}
 use Rattle.sheet.proofs.Exact.{accepted-iff}
 
 -- What a caller of the check has where the code is READ.
-pub accepted-by : (t : List ℕ) (v : Verdict) → v ≡ checkOf t → v .code ≡ READ → Accepted t
+pub accepted-by : (t : List ℕ) (code : ℕ) → code ≡ checkOf t .code → code ≡ READ → Accepted t
 unfolding Accepted
-accepted-by t v e h = ap (λ (w : Verdict). w .code) (sym e) ∙ h
+accepted-by t code e h = sym e ∙ h
 
 pub well-formed : (t : List ℕ) → Accepted t → WellFormed t
 well-formed t = accepted-iff t .0
 
--- Fields of a node are small: children and rules are, and bytes.
-fields-small : {r i kind a b : ℕ} → Fits r i kind a b → r ≤ mostRules → i < mostNodes → (a < mostNodes) × (b < mostNodes)
-fields-small is-empty r i = omega arith
-fields-small (is-range h l) r i = omega arith
-fields-small (is-rule h) r i = omega arith
-fields-small (is-sequence h l) r i = omega arith
-fields-small (is-choice h l) r i = omega arith
-fields-small (is-not h) r i = omega arith
-fields-small (is-repetition h) r i = omega arith
+pub laid : (t : List ℕ) → Accepted t → Laid t
+laid t a = laid-iff t .1 (well-formed t a .laid)
 
-pub small-field : (t : List ℕ) → Accepted t → (i at : ℕ) → i < nodesOf t → at % 2 ≡ 1 → at ≤ 3 → fieldOf t i at < mostNodes
-small-field t accepted i at h odd le =
-    let w = well-formed t accepted in
-    let small = fields-small (w .fields i h) (w .few-rules) (omega arith) in
-    ⊎-elim (λ (e : at ≡ 3). rw e (small .1)) (λ (l : at < 3). let e : at ≡ 1 = omega arith in rw e (small .0)) (eq-or-lt-of-le le)
-
--- A node of an accepted table lies inside it.
-pub node-inside : (t : List ℕ) → Accepted t → (i : ℕ) → i < nodesOf t → nodeAt (rulesOf t) i + 5 ≤ length t
-unfolding formula
-node-inside t a i h = let w = well-formed t a in let f = w .by-formula in omega arith
-
--- Where a node starts, counted from the first.
-pub node-place : (t : List ℕ) → Accepted t → (first i : ℕ) → first ≡ nodeAt (rulesOf t) 0 → i < nodesOf t → (first + 5 * i ≡ nodeAt (rulesOf t) i) × (nodeAt (rulesOf t) i ≤ 2690)
-node-place t a first i e h = let w = well-formed t a in let n = w .few-nodes in let r = w .few-rules in (omega arith, omega arith)
-
--- ---- The grammar of a table.
-pub length-each {ℓ} : {A : Type ℓ} (f : ℕ → A) (i k : ℕ) → length (each f i k) ≡ k
-length-each f i zero = refl
-length-each f i (suc k) = ap suc (length-each f (suc i) k)
-
-pub getD-each {ℓ} : {A : Type ℓ} (f : ℕ → A) (i k j : ℕ) (d : A) → j < k → getD (each f i k) j d ≡ f (i + j)
-getD-each f i zero j d h = absurd (omega arith)
-getD-each f i (suc k) zero d h = let e : i ≡ i + 0 = omega arith in ap f e
-getD-each f i (suc k) (suc j) d h = let e : suc i + j ≡ i + suc j = omega arith in getD-each f (suc i) k j d (omega arith) ∙ ap f e
-
-module _ (t : List ℕ) where
-  pub node-count : length (grammarOf t .nodes) ≡ nodesOf t
-  unfolding grammarOf
-  node-count = length-each (nodeOf t) 0 (nodesOf t)
-
-  pub rule-count : length (grammarOf t .roots) ≡ rulesOf t
-  unfolding grammarOf
-  rule-count = length-each (rootOf t) 0 (rulesOf t)
-
-  pub node-is : (i : ℕ) → i < nodesOf t → node (grammarOf t) i ≡ nodeOf t i
-  unfolding grammarOf
-  node-is i h = let e : 0 + i ≡ i = omega arith in getD-each (nodeOf t) 0 (nodesOf t) i _ h ∙ ap (nodeOf t) e
-
-  pub root-is : (a : ℕ) → a < rulesOf t → grammar.rootOf (grammarOf t) a ≡ rootOf t a
-  unfolding grammarOf
-  root-is a h = let e : 0 + a ≡ a = omega arith in getD-each (rootOf t) 0 (rulesOf t) a _ h ∙ ap (rootOf t) e
-
-  -- What a node is, by its kind.
-  pub node-as : (i : ℕ) → i < nodesOf t → (kind : ℕ) → kindOf t i ≡ kind → node (grammarOf t) i ≡ decode kind (aOf t i) (bOf t i)
-  unfolding nodeOf
-  node-as i h kind e = node-is i h ∙ ap (λ (k : ℕ). decode k (aOf t i) (bOf t i)) e
-
--- What node i may have for fields, in a table of r rules.
-abbrev pub Bounds : (r i : ℕ) → Node → Type 0
-Bounds r i empty = Unit {0}
-Bounds r i (range a b) = (a ≤ b) × (b ≤ 255)
-Bounds r i (rule a) = a < r
-Bounds r i (seq a b) = (a < i) × (b < i)
-Bounds r i (choice a b) = (a < i) × (b < i)
-Bounds r i (not a) = a < i
-Bounds r i (rep a) = a < i
-
-bounded : {r i kind a b : ℕ} → Fits r i kind a b → Bounds r i (decode kind a b)
-bounded is-empty = tt
-bounded (is-range h l) = (h, l)
-bounded (is-rule h) = h
-bounded (is-sequence h l) = (h, l)
-bounded (is-choice h l) = (h, l)
-bounded (is-not h) = h
-bounded (is-repetition h) = h
-
-below : (g : Grammar) (r i : ℕ) → length (g .roots) ≡ r → (n : Node) → Bounds r i n → Below g i n
-below g r i e empty h = tt
-below g r i e (range a b) h = tt
-below g r i e (rule a) h = rw e h
-below g r i e (seq a b) h = h
-below g r i e (choice a b) h = h
-below g r i e (not a) h = h
-below g r i e (rep a) h = h
-
-module _ (t : List ℕ) (accepted : Accepted t) where
-  -- What fields a node has, by its kind.
-  pub bounds-as : (i : ℕ) → i < nodesOf t → (kind : ℕ) → kindOf t i ≡ kind → Bounds (rulesOf t) i (decode kind (aOf t i) (bOf t i))
-  bounds-as i h kind e = subst (λ (k : ℕ). Bounds (rulesOf t) i (decode k (aOf t i) (bOf t i))) e (bounded (well-formed t accepted .fields i h))
-
-  pub closed : Closed (grammarOf t)
-  unfolding nodeOf
-  closed =
-      let w = well-formed t accepted in
-      record {
-        nodes = λ i h.
-            let l : i < nodesOf t = rw (node-count t) at h in
-            rw (node-is t i l) (below (grammarOf t) (rulesOf t) i (rule-count t) (nodeOf t i) (bounded (w .fields i l)));
-        roots = λ a h.
-            let l : a < rulesOf t = rw (rule-count t) at h in
-            rw (node-count t, root-is t a l) (w .roots a l);
-      }
+pub consuming : (t : List ℕ) → Accepted t → Consuming (grammarOf t)
+consuming t a = record { none = λ i h. well-formed t a .loops i (rw (node-count t) at h) }

@@ -1,139 +1,116 @@
--- The check gives each code exactly where its row of 01's table says, at that row's place; and accepts exactly the well-formed tables.
+-- The check gives each code exactly where its row says, at that row's place; and accepts exactly the well-formed tables.
 use mathlib.Core.Path.{_≡_, refl, sym, ap, subst, _∙_}
-use mathlib.Core.Logic.{_↔_, _≢_}
+use mathlib.Core.Logic.{_↔_, _≢_, _⊎_, inl, inr}
+use mathlib.Core.Bool.{Bool, true, false}
 use mathlib.Core.List.{List}
 use Prim.Native.Nat.{ℕ, _+_, _≤_, _<_}
 use native.Mathlib.Omega.{arith}
-use borrow.Author.Tests.{leb-true, leb-false, eqb-true, eqb-false}
-use lib.Dec.{leb, eqb}
-use lib.ListN.{length}
-use Rattle.sheet.specs.declared.Verdict.{Verdict}
-use Rattle.sheet.specs.Table.{byteAt, lengthOf, nodesOf, mostNodes, rulesOf, rootOf, formula, WellFormed}
-use Rattle.sheet.specs.Check.{READ, FIELD, verdict, _orElse_, firstFault, countsFit, allEqual, rootFault, nodeFault, checkOf, Accepted}
-use Rattle.sheet.specs.Given.{HeaderFits, RootsFit, NodesFit, Given, short, version, count, lengths, root, kind, field, read}
-use Rattle.sheet.proofs.Laws.{root-refused, says-short, says-version, says-count, says-length, says-rest}
-use Rattle.sheet.proofs.Tests.{failed-iff, counts-iff, all-equal-iff, root-iff, kind-fits}
-use Rattle.sheet.proofs.Cases.{row-cases, search-cases, search-none, search-found, node-cases, node-iff, node-kind, node-field}
+use borrow.Author.Tests.{eqb-true, eqb-false, ne-eqb}
+use lib.Dec.{eqb}
+use Rattle.layout.specs.declared.Verdict.{Verdict}
+use Rattle.layout.specs.Table.{nodesOf, mostNodes, grammarOf}
+use Rattle.layout.specs.Layout.{READ, FIELD, verdict, firstFault, layoutOf, Laid}
+use Rattle.layout.proofs.Exact as layout
+use Rattle.layout.proofs.Cases.{search-cases, search-none, search-found}
+use Rattle.empties.proofs.Once.{Words, one-mask, one-marking}
+use Rattle.sheet.specs.declared.Examined.{Examined}
+use Rattle.sheet.specs.Check.{LOOP, loopFault, checkOf, Accepted}
+use Rattle.sheet.specs.Examine.{ExaminedAs}
+use Rattle.sheet.specs.Given.{WellFormed, Given, laid-out, loop, read}
+use Rattle.sheet.proofs.Searching.{loop-cases, loop-found, loop-iff, by-loops}
 
 module _ (t : List ℕ) where
-  header : WellFormed t → HeaderFits t
-  unfolding formula
-  header w =
-      record {
-        long = omega (arith, w .by-formula);
-        version = w .version;
-        counts = ((w .some-node, w .few-nodes), (w .some-rule, w .few-rules));
-        lengths = (w .as-said, w .by-formula);
-      }
+  -- Where the layout refuses, so does the check.
+  refuses : layoutOf t .code ≢ READ → checkOf t ≡ layoutOf t
+  unfolding checkOf
+  refuses n = rw (ne-eqb (layoutOf t .code) READ n)
 
   -- ---- A code that is given is the check's.
-  roots-then-nodes : HeaderFits t → checkOf t ≡ firstFault (rootFault t) 0 (rulesOf t) orElse firstFault (nodeFault t) 0 (nodesOf t)
-  roots-then-nodes h = says-rest t (h .long) (h .version) (counts-iff _ _ .1 (h .counts)) (all-equal-iff _ _ _ .1 (h .lengths))
-
-  nodes-next : HeaderFits t → RootsFit t (rulesOf t) → checkOf t ≡ firstFault (nodeFault t) 0 (nodesOf t)
-  nodes-next h roots =
-      roots-then-nodes h
-      ∙ ap (λ (v : Verdict). v orElse firstFault (nodeFault t) 0 (nodesOf t)) (search-none (rootFault t) (rulesOf t) (λ a l. root-iff t a .1 (roots a l)))
-
   gives : {code place : ℕ} → Given t code place → checkOf t ≡ verdict code place
-  gives (short h) = says-short t h
-  gives (version l h) = says-version t l h
-  gives (count l v n) = says-count t l v (failed-iff (counts-iff _ _) .1 n)
-  gives (lengths l v c n) = says-length t l v (counts-iff _ _ .1 c) (failed-iff (all-equal-iff _ _ _) .1 n)
-  gives (root h {a} l before over) =
-      roots-then-nodes h
-      ∙ ap (λ (v : Verdict). v orElse firstFault (nodeFault t) 0 (nodesOf t)) (search-found (rootFault t) (rulesOf t) a l (λ b k. root-iff t b .1 (before b k)) 4 (root-refused t a _ refl over))
-  gives (kind h roots {i} l before over) = nodes-next h roots ∙ search-found (nodeFault t) (nodesOf t) i l (λ j k. node-iff t j .1 (before j k)) 5 (node-kind t i over)
-  gives (field h roots {i} l before k n) = nodes-next h roots ∙ search-found (nodeFault t) (nodesOf t) i l (λ j k. node-iff t j .1 (before j k)) 6 (node-field t i k n)
-  gives (read w) = nodes-next (header w) (w .roots) ∙ search-none (nodeFault t) (nodesOf t) (λ i l. node-iff t i .1 (w .fields i l))
+  gives (laid-out g n) = let e = layout.given-iff t .0 g in refuses (λ r. n (ap (λ (v : Verdict). v .code) (sym e) ∙ r)) ∙ e
+  gives (loop w {i} l before d) =
+      let laid = layout.laid-iff t .1 w in
+      by-loops t laid ∙ search-found (loopFault t) (nodesOf t) i l (λ j k. loop-iff t laid j (omega arith) .1 (before j k)) 16 (loop-found t laid i l d)
+  gives (read w) =
+      let laid = layout.laid-iff t .1 (w .laid) in
+      by-loops t laid ∙ search-none (loopFault t) (nodesOf t) (λ i l. loop-iff t laid i l .1 (w .loops i l))
 
   -- ---- The check's code is given.
   abbrev Right : Verdict → Type 0
   Right v = Given t (v .code) (v .place)
 
-  together : HeaderFits t → RootsFit t (rulesOf t) → NodesFit t (nodesOf t) → WellFormed t
-  together h roots nodes =
-      record {
-        version = h .version;
-        some-node = h .counts .0 .0;
-        few-nodes = h .counts .0 .1;
-        some-rule = h .counts .1 .0;
-        few-rules = h .counts .1 .1;
-        as-said = h .lengths .0;
-        by-formula = h .lengths .1;
-        roots = roots;
-        kinds = λ i l. kind-fits (nodes i l);
-        fields = nodes;
-      }
-
-  right-nodes : HeaderFits t → RootsFit t (rulesOf t) → Right (firstFault (nodeFault t) 0 (nodesOf t))
-  right-nodes h roots =
-      search-cases Right (nodeFault t) 0 (nodesOf t) first
-      (λ none. read (together h roots (λ i l. node-iff t i .0 (none i (omega arith) (omega arith)))))
+  right-loops : Laid t → Right (firstFault (loopFault t) 0 (nodesOf t))
+  right-loops laid =
+      search-cases Right (loopFault t) 0 (nodesOf t) first
+      (λ none. read (record { laid = layout.laid-iff t .0 laid; loops = λ i l. loop-iff t laid i l .0 (none i (omega arith) (omega arith)) }))
     where
-      first : (i : ℕ) → 0 ≤ i → i < 0 + nodesOf t → ((j : ℕ) → 0 ≤ j → j < i → nodeFault t j ≡ READ) → nodeFault t i ≢ READ → Right (verdict (nodeFault t i) i)
+      first : (i : ℕ) → 0 ≤ i → i < 0 + nodesOf t → ((j : ℕ) → 0 ≤ j → j < i → loopFault t j ≡ READ) → loopFault t i ≢ READ → Right (verdict (loopFault t i) i)
       first i g l before =
-          let fit : NodesFit t i = λ j k. node-iff t j .0 (before j (omega arith) k) in
           let lt : i < nodesOf t = omega arith in
-          node-cases t (λ x. x ≢ READ → Right (verdict x i)) i (λ e n. absurd (n refl)) (λ over n. kind h roots lt fit over) (λ k against n. field h roots lt fit k against)
-
-  right-roots : HeaderFits t → Right (firstFault (rootFault t) 0 (rulesOf t) orElse firstFault (nodeFault t) 0 (nodesOf t))
-  right-roots h =
-      search-cases (λ v. Right (v orElse firstFault (nodeFault t) 0 (nodesOf t))) (rootFault t) 0 (rulesOf t) first
-      (λ none. right-nodes h (λ a l. root-iff t a .0 (none a (omega arith) (omega arith))))
-    where
-      first : (a : ℕ) → 0 ≤ a → a < 0 + rulesOf t → ((b : ℕ) → 0 ≤ b → b < a → rootFault t b ≡ READ)
-          → rootFault t a ≢ READ → Right (verdict (rootFault t a) a orElse firstFault (nodeFault t) 0 (nodesOf t))
-      first a g l before z =
-          let not-below : ¬ (rootOf t a < nodesOf t) = λ k. z (root-iff t a .1 k) in
-          let over : nodesOf t ≤ rootOf t a = omega arith in
-          let lt : a < rulesOf t = omega arith in
-          rw (root-refused t a _ refl over) (root h lt (λ b k. root-iff t b .0 (before b (omega arith) k)) over)
+          loop-cases t laid i lt (λ x. x ≢ READ → Right (verdict x i))
+          (λ d n. loop (layout.laid-iff t .0 laid) lt (λ j k. loop-iff t laid j (omega arith) .0 (before j (omega arith) k)) d) (λ m n. absurd (n refl))
 
   -- Some code is always given.
   pub given : Given t (checkOf t .code) (checkOf t .place)
-  unfolding checkOf
-  given =
-      row-cases Right (leb 7 (length t)) 0 _ (λ e. short (leb-false _ _ e))
-      (λ e. let long = leb-true _ _ e in
-      row-cases Right (eqb (byteAt t 0) 1) 1 _ (λ e. version long (eqb-false _ _ e))
-      (λ e. let one = eqb-true _ _ e in
-      row-cases Right (countsFit (nodesOf t) (rulesOf t)) 2 _ (λ e. count long one (failed-iff (counts-iff _ _) .0 e))
-      (λ e. let fit = counts-iff _ _ .0 e in
-      row-cases Right (allEqual (length t) (lengthOf t) (formula t)) 3 _ (λ e. lengths long one fit (failed-iff (all-equal-iff _ _ _) .0 e))
-      (λ e. right-roots (record { long = long; version = one; counts = fit; lengths = all-equal-iff _ _ _ .0 e })))))
+  unfolding Laid
+  given = by (eqb (layoutOf t .code) READ) refl
+    where
+      by : (b : Bool) → eqb (layoutOf t .code) READ ≡ b → Right (checkOf t)
+      by true e = let laid = eqb-true _ _ e in rw (by-loops t laid) (right-loops laid)
+      by false e = let n = eqb-false _ _ e in rw (refuses n) (laid-out (layout.given t) n)
 
-  -- 01's table of codes, each row in both directions.
+  -- The table of codes, each row in both directions.
   pub given-iff : {code place : ℕ} → Given t code place ↔ (checkOf t ≡ verdict code place)
   given-iff = (gives, (λ e. subst Right e given))
 
   pub given-once : {code place code′ place′ : ℕ} → Given t code place → Given t code′ place′ → (code ≡ code′) × (place ≡ place′)
   given-once g h = let e = sym (gives g) ∙ gives h in (ap (λ (v : Verdict). v .code) e, ap (λ (v : Verdict). v .place) e)
 
-  small : {code place : ℕ} → Given t code place → (code ≤ FIELD) × (place < mostNodes)
-  small (short h) = omega arith
-  small (version l h) = omega arith
-  small (count l v n) = omega arith
-  small (lengths l v c n) = omega arith
-  small (root h l before over) = omega arith
-  small (kind h roots l before over) = omega arith
-  small (field h roots l before k n) = omega arith
-  small (read w) = omega arith
+  -- A code of the check is one of the layout's, or LOOP; and a place is a node's or a rule's number.
+  named : {code place : ℕ} → Given t code place → ((code ≤ FIELD) ⊎ (code ≡ LOOP)) × (place < mostNodes)
+  named (laid-out g n) = let s = layout.small t g in (inl (s .0), s .1)
+  named (loop w l before d) = let few = w .few-nodes in (inr refl, omega arith)
+  named (read w) = (inl (omega arith), omega arith)
 
-  pub small-verdict : (checkOf t .code ≤ FIELD) × (checkOf t .place < mostNodes)
-  small-verdict = small given
+  pub check-code : (checkOf t .code ≤ FIELD) ⊎ (checkOf t .code ≡ LOOP)
+  check-code = named given .0
+
+  pub small-verdict : (checkOf t .code ≤ LOOP) × (checkOf t .place < mostNodes)
+  small-verdict = (most (named given .0), named given .1)
+    where
+      most : {code : ℕ} → (code ≤ FIELD) ⊎ (code ≡ LOOP) → code ≤ LOOP
+      most (inl h) = omega arith
+      most (inr e) = omega arith
 
   -- The code 0 is given to a well-formed table only.
   of-read : {code place : ℕ} → Given t code place → code ≡ READ → WellFormed t
-  of-read (short h) e = absurd (omega arith)
-  of-read (version l h) e = absurd (omega arith)
-  of-read (count l v n) e = absurd (omega arith)
-  of-read (lengths l v c n) e = absurd (omega arith)
-  of-read (root h l before over) e = absurd (omega arith)
-  of-read (kind h roots l before over) e = absurd (omega arith)
-  of-read (field h roots l before k n) e = absurd (omega arith)
+  of-read (laid-out g n) e = absurd (n e)
+  of-read (loop w l before d) e = absurd (omega arith)
   of-read (read w) e = w
 
   pub accepted-iff : Accepted t ↔ WellFormed t
   unfolding Accepted
   accepted-iff = (of-read given, (λ w. ap (λ (v : Verdict). v .code) (gives (read w))))
+
+-- ---- One examination of a table: what is returned, and what is left in words of 64 bits.
+examined : (code place rules : ℕ) → Examined
+examined c p r = record { code = c; place = p; «empty_rules» = r }
+
+pub one-examination : {t before after after′ : List ℕ} {x y : Examined} → ExaminedAs t before after x → ExaminedAs t before after′ y → Words after → Words after′ → (x ≡ y) × (after ≡ after′)
+unfolding examined Laid
+one-examination {t} {before} {after} {after′} {x} {y} a b fits fits′ = by (eqb (layoutOf t .code) READ) refl
+  where
+    all : x .«empty_rules» ≡ y .«empty_rules» → x ≡ y
+    all r =
+        let c : x .code ≡ y .code = a .code ∙ sym (b .code) in
+        let p : x .place ≡ y .place = a .place ∙ sym (b .place) in
+        let same : examined (x .code) (x .place) (x .«empty_rules») ≡ examined (y .code) (y .place) (y .«empty_rules») = cc in
+        same
+
+    by : (q : Bool) → eqb (layoutOf t .code) READ ≡ q → (x ≡ y) × (after ≡ after′)
+    by true e =
+        let laid : layoutOf t .code ≡ READ = eqb-true _ _ e in
+        (all (one-mask (a .rules laid) (b .rules laid)), one-marking (grammarOf t) after after′ fits fits′ (a .marks laid) (b .marks laid))
+    by false e =
+        let out : layoutOf t .code ≢ READ = eqb-false _ _ e in
+        (all (a .refused out .0 ∙ sym (b .refused out .0)), a .refused out .1 ∙ sym (b .refused out .1))

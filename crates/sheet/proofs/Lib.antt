@@ -1,6 +1,4 @@
-pub mod Laws
-pub mod Tests
-pub mod Cases
+pub mod Searching
 pub mod Exact
 pub mod Accepting
 pub mod Worked

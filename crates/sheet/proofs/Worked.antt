@@ -1,78 +1,45 @@
--- 01's sheets A and B, and B with a rule that nobody uses: their tables are accepted and are the grammars that 01 lists; and the order of refusals, on small tables.
+-- 01's sheets A and B, and B with a rule that nobody uses, are accepted; small tables with repetitions of nothing are not.
 use mathlib.Core.Path.{_≡_, refl}
 use mathlib.Core.List.{List, [], _∷_}
 use Prim.Native.Nat.{ℕ}
-use Rattle.meaning.specs.Grammar.{range, rule, seq, choice, Grammar}
-use Rattle.sheet.specs.Table.{lengthOf, nodesOf, rulesOf, rootOf, formula, kindOf, fieldOf, nodeOf, grammarOf}
-use Rattle.sheet.specs.Check.{READ, COUNT, LENGTH, ROOT, KIND, FIELD, verdict, firstFault, rootFault, fieldsFit, faultOf, nodeFault, checkOf}
+use Rattle.meaning.specs.Decide.{emptyNodes}
+use Rattle.layout.specs.Table.{lengthOf, nodesOf, rulesOf, rootOf, formula, kindOf, fieldOf, nodeOf, grammarOf}
+use Rattle.layout.specs.Layout.{READ, KIND, FIELD, verdict, firstFault, rootFault, fieldsFit, faultOf, nodeFault, layoutOf}
+use Rattle.layout.proofs.Worked.{tableA, tableB, tableUnused}
+use Rattle.sheet.specs.Check.{LOOP, loopFault, checkOf}
 
--- S <- S '+' D / D; D <- [0-9].
-abbrev pub tableA : List ℕ
-tableA =
-    1 ∷ 0 ∷ 46 ∷ 0 ∷ 7 ∷ 0 ∷ 2 ∷ 0 ∷ 5 ∷ 0 ∷ 6
-    ∷ 2 ∷ 0 ∷ 0 ∷ 0 ∷ 0
-    ∷ 1 ∷ 0 ∷ 43 ∷ 0 ∷ 43
-    ∷ 2 ∷ 0 ∷ 1 ∷ 0 ∷ 0
-    ∷ 3 ∷ 0 ∷ 1 ∷ 0 ∷ 2
-    ∷ 3 ∷ 0 ∷ 0 ∷ 0 ∷ 3
-    ∷ 4 ∷ 0 ∷ 4 ∷ 0 ∷ 2
-    ∷ 1 ∷ 0 ∷ 48 ∷ 0 ∷ 57 ∷ []
+pub sheets : (checkOf tableA ≡ verdict READ 0) × (checkOf tableB ≡ verdict READ 0) × (checkOf tableUnused ≡ verdict READ 0)
+unfolding checkOf loopFault layoutOf firstFault rootFault nodeFault faultOf fieldsFit grammarOf nodeOf kindOf fieldOf rootOf lengthOf nodesOf rulesOf formula
+sheets = (refl, refl, refl)
 
-abbrev pub sheetA : Grammar
-sheetA =
-    record {
-      nodes = rule 0 ∷ range 43 43 ∷ rule 1 ∷ seq 1 2 ∷ seq 0 3 ∷ choice 4 2 ∷ range 48 57 ∷ [];
-      roots = 5 ∷ 6 ∷ [];
-    }
+-- ('kW'?)*: nodes 0 'k', 1 'W', 2 seq 0 1, 3 empty, 4 choice 2 3, 5 rep 4.
+abbrev pub tableMaybe : List ℕ
+tableMaybe =
+    1 ∷ 0 ∷ 39 ∷ 0 ∷ 6 ∷ 0 ∷ 1 ∷ 0 ∷ 5
+    ∷ 1 ∷ 0 ∷ 107 ∷ 0 ∷ 107
+    ∷ 1 ∷ 0 ∷ 87 ∷ 0 ∷ 87
+    ∷ 3 ∷ 0 ∷ 0 ∷ 0 ∷ 1
+    ∷ 0 ∷ 0 ∷ 0 ∷ 0 ∷ 0
+    ∷ 4 ∷ 0 ∷ 2 ∷ 0 ∷ 3
+    ∷ 6 ∷ 0 ∷ 4 ∷ 0 ∷ 0 ∷ []
 
--- N <- D ',' D / D; D <- [0-9].
-abbrev pub tableB : List ℕ
-tableB =
-    1 ∷ 0 ∷ 41 ∷ 0 ∷ 6 ∷ 0 ∷ 2 ∷ 0 ∷ 4 ∷ 0 ∷ 5
-    ∷ 2 ∷ 0 ∷ 1 ∷ 0 ∷ 0
-    ∷ 1 ∷ 0 ∷ 44 ∷ 0 ∷ 44
-    ∷ 3 ∷ 0 ∷ 1 ∷ 0 ∷ 0
-    ∷ 3 ∷ 0 ∷ 0 ∷ 0 ∷ 2
-    ∷ 4 ∷ 0 ∷ 3 ∷ 0 ∷ 0
-    ∷ 1 ∷ 0 ∷ 48 ∷ 0 ∷ 57 ∷ []
+-- The same with node 5 repeating 'kW' itself.
+abbrev pub tableOften : List ℕ
+tableOften =
+    1 ∷ 0 ∷ 39 ∷ 0 ∷ 6 ∷ 0 ∷ 1 ∷ 0 ∷ 5
+    ∷ 1 ∷ 0 ∷ 107 ∷ 0 ∷ 107
+    ∷ 1 ∷ 0 ∷ 87 ∷ 0 ∷ 87
+    ∷ 3 ∷ 0 ∷ 0 ∷ 0 ∷ 1
+    ∷ 0 ∷ 0 ∷ 0 ∷ 0 ∷ 0
+    ∷ 4 ∷ 0 ∷ 2 ∷ 0 ∷ 3
+    ∷ 6 ∷ 0 ∷ 2 ∷ 0 ∷ 0 ∷ []
 
-abbrev pub sheetB : Grammar
-sheetB =
-    record {
-      nodes = rule 1 ∷ range 44 44 ∷ seq 1 0 ∷ seq 0 2 ∷ choice 3 0 ∷ range 48 57 ∷ [];
-      roots = 4 ∷ 5 ∷ [];
-    }
-
--- Sheet B with a third rule that calls itself and that nobody uses: N <- D ',' D / D; D <- [0-9]; R <- R.
-abbrev pub tableUnused : List ℕ
-tableUnused =
-    1 ∷ 0 ∷ 48 ∷ 0 ∷ 7 ∷ 0 ∷ 3 ∷ 0 ∷ 4 ∷ 0 ∷ 5 ∷ 0 ∷ 6
-    ∷ 2 ∷ 0 ∷ 1 ∷ 0 ∷ 0
-    ∷ 1 ∷ 0 ∷ 44 ∷ 0 ∷ 44
-    ∷ 3 ∷ 0 ∷ 1 ∷ 0 ∷ 0
-    ∷ 3 ∷ 0 ∷ 0 ∷ 0 ∷ 2
-    ∷ 4 ∷ 0 ∷ 3 ∷ 0 ∷ 0
-    ∷ 1 ∷ 0 ∷ 48 ∷ 0 ∷ 57
-    ∷ 2 ∷ 0 ∷ 2 ∷ 0 ∷ 0 ∷ []
-
-abbrev pub sheetUnused : Grammar
-sheetUnused =
-    record {
-      nodes = rule 1 ∷ range 44 44 ∷ seq 1 0 ∷ seq 0 2 ∷ choice 3 0 ∷ range 48 57 ∷ rule 2 ∷ [];
-      roots = 4 ∷ 5 ∷ 6 ∷ [];
-    }
-
-pub sheets : (checkOf tableA ≡ verdict READ 0) × (grammarOf tableA ≡ sheetA) × (checkOf tableB ≡ verdict READ 0) × (grammarOf tableB ≡ sheetB)
-    × (checkOf tableUnused ≡ verdict READ 0) × (grammarOf tableUnused ≡ sheetUnused)
-unfolding checkOf firstFault rootFault nodeFault faultOf fieldsFit grammarOf nodeOf kindOf fieldOf rootOf lengthOf nodesOf rulesOf formula
-sheets = (refl, refl, refl, refl, refl, refl)
-
--- Of two faults the one that 01 tests first: a count before a length, a root before a node, a field of node 0 before the kind of node 1.
-pub first-of-two :
-    (checkOf (1 ∷ 0 ∷ 9 ∷ 0 ∷ 0 ∷ 0 ∷ 1 ∷ []) ≡ verdict COUNT 0)
-    × (checkOf (1 ∷ 0 ∷ 15 ∷ 0 ∷ 1 ∷ 0 ∷ 1 ∷ 0 ∷ 0 ∷ 0 ∷ 0 ∷ 0 ∷ 0 ∷ 0 ∷ []) ≡ verdict LENGTH 0)
-    × (checkOf (1 ∷ 0 ∷ 14 ∷ 0 ∷ 1 ∷ 0 ∷ 1 ∷ 0 ∷ 1 ∷ 9 ∷ 0 ∷ 0 ∷ 0 ∷ 0 ∷ []) ≡ verdict ROOT 0)
-    × (checkOf (1 ∷ 0 ∷ 19 ∷ 0 ∷ 2 ∷ 0 ∷ 1 ∷ 0 ∷ 1 ∷ 0 ∷ 0 ∷ 1 ∷ 0 ∷ 0 ∷ 9 ∷ 0 ∷ 0 ∷ 0 ∷ 0 ∷ []) ≡ verdict FIELD 0)
-    × (checkOf (1 ∷ 0 ∷ 19 ∷ 0 ∷ 2 ∷ 0 ∷ 1 ∷ 0 ∷ 1 ∷ 0 ∷ 0 ∷ 0 ∷ 0 ∷ 0 ∷ 9 ∷ 0 ∷ 0 ∷ 0 ∷ 9 ∷ []) ≡ verdict KIND 1)
-unfolding checkOf firstFault rootFault nodeFault faultOf fieldsFit kindOf fieldOf rootOf lengthOf nodesOf rulesOf formula
-first-of-two = (refl, refl, refl, refl, refl)
+-- Over a rule that may be empty by left recursion, S <- R*; R <- R 'a' / empty; two of them, the lower one named; kind 7, or a field, at a higher node goes first.
+pub loops : (checkOf tableMaybe ≡ verdict LOOP 5) × (checkOf tableOften ≡ verdict READ 0)
+    × (checkOf (1 ∷ 0 ∷ 41 ∷ 0 ∷ 6 ∷ 0 ∷ 2 ∷ 0 ∷ 5 ∷ 0 ∷ 4 ∷ 2 ∷ 0 ∷ 1 ∷ 0 ∷ 0 ∷ 1 ∷ 0 ∷ 97 ∷ 0 ∷ 97 ∷ 3 ∷ 0 ∷ 0 ∷ 0 ∷ 1 ∷ 0 ∷ 0 ∷ 0 ∷ 0 ∷ 0 ∷ 4 ∷ 0 ∷ 2 ∷ 0 ∷ 3 ∷ 6 ∷ 0 ∷ 0 ∷ 0 ∷ 0 ∷ [])
+    ≡ verdict LOOP 5)
+    × (checkOf (1 ∷ 0 ∷ 24 ∷ 0 ∷ 3 ∷ 0 ∷ 1 ∷ 0 ∷ 2 ∷ 0 ∷ 0 ∷ 0 ∷ 0 ∷ 0 ∷ 6 ∷ 0 ∷ 0 ∷ 0 ∷ 0 ∷ 6 ∷ 0 ∷ 1 ∷ 0 ∷ 0 ∷ []) ≡ verdict LOOP 1)
+    × (checkOf (1 ∷ 0 ∷ 24 ∷ 0 ∷ 3 ∷ 0 ∷ 1 ∷ 0 ∷ 2 ∷ 0 ∷ 0 ∷ 0 ∷ 0 ∷ 0 ∷ 6 ∷ 0 ∷ 0 ∷ 0 ∷ 0 ∷ 7 ∷ 0 ∷ 0 ∷ 0 ∷ 0 ∷ []) ≡ verdict KIND 2)
+    × (checkOf (1 ∷ 0 ∷ 24 ∷ 0 ∷ 3 ∷ 0 ∷ 1 ∷ 0 ∷ 2 ∷ 0 ∷ 0 ∷ 0 ∷ 0 ∷ 0 ∷ 6 ∷ 0 ∷ 0 ∷ 0 ∷ 0 ∷ 5 ∷ 0 ∷ 2 ∷ 0 ∷ 0 ∷ []) ≡ verdict FIELD 2)
+unfolding checkOf loopFault emptyNodes layoutOf firstFault rootFault nodeFault faultOf fieldsFit grammarOf nodeOf kindOf fieldOf rootOf lengthOf nodesOf rulesOf formula
+loops = (refl, refl, refl, refl, refl, refl)

@@ -1,98 +1,36 @@
--- 01, "What comes back": codes 1 to 7 of the table check with their places, in 01's order.
+-- 01, "What comes back", and 02's W-209: the codes of the table check with their places, in their order.
 use mathlib.Core.Path.{_≡_}
-use mathlib.Core.Bool.{Bool, true, false, _&&_, cond}
+use mathlib.Core.Bool.{Bool, true, false, cond}
 use mathlib.Core.List.{List}
-use Prim.Native.Nat.{ℕ, zero, suc}
-use lib.ListN.{length}
-use lib.Dec.{leb, ltb, eqb}
-use Rattle.sheet.specs.declared.Verdict.{Verdict}
-use Rattle.sheet.specs.Table.{byteAt, lengthOf, nodesOf, mostNodes, rulesOf, mostRules, rootOf, formula, kindOf, aOf, bOf}
+use Prim.Native.Nat.{ℕ}
+use lib.ListN.{getD}
+use Rattle.meaning.specs.Grammar.{Node, empty, range, rule, seq, choice, not, rep, node}
+use Rattle.meaning.specs.Decide.{emptyNodes}
+use Rattle.layout.specs.declared.Verdict.{Verdict}
+use Rattle.layout.specs.Table.{nodesOf, grammarOf}
+use Rattle.layout.specs.Layout.{READ, _orElse_, firstFault, layoutOf}
 
--- 01's codes.
-abbrev pub READ : ℕ
-READ = 0
+-- 02: "17 LOOP".
+abbrev pub LOOP : ℕ
+LOOP = 17
 
-abbrev pub SHORT : ℕ
-SHORT = 1
+-- A repetition whose child is among the nodes that may be empty.
+abbrev pub repeatsOneOf : List Bool → Node → Bool
+repeatsOneOf es empty = false
+repeatsOneOf es (range lo hi) = false
+repeatsOneOf es (rule a) = false
+repeatsOneOf es (seq a b) = false
+repeatsOneOf es (choice a b) = false
+repeatsOneOf es (not a) = false
+repeatsOneOf es (rep a) = getD es a false
 
-abbrev pub VERSION : ℕ
-VERSION = 2
+-- W-209: "A repetition whose child may be empty".
+unfoldable pub loopFault : List ℕ → ℕ → ℕ
+loopFault t i = cond (repeatsOneOf (emptyNodes (grammarOf t)) (node (grammarOf t) i)) LOOP READ
 
-abbrev pub COUNT : ℕ
-COUNT = 3
-
-abbrev pub LENGTH : ℕ
-LENGTH = 4
-
-abbrev pub ROOT : ℕ
-ROOT = 5
-
-abbrev pub KIND : ℕ
-KIND = 6
-
-abbrev pub FIELD : ℕ
-FIELD = 7
-
-abbrev pub verdict : (code place : ℕ) → Verdict
-verdict code place = record { code = code; place = place }
-
--- A row of 01's table of codes that has no place: its code, unless its test is passed.
-abbrev pub unless : Bool → (code : ℕ) → Verdict
-unless true code = verdict READ 0
-unless false code = verdict code 0
-
-infixr 20 _orElse_
--- 01: "Checks in this order". The first of two rows, unless it has nothing to refuse.
-abbrev pub _orElse_ : Verdict → Verdict → Verdict
-v orElse w = cond (eqb (v .code) READ) w v
-
--- The first of k places, from i on, at which there is a fault: f gives the fault's code at each place, READ where there is none.
-unfoldable pub firstFault : (f : ℕ → ℕ) → (i k : ℕ) → Verdict
-firstFault f i zero = verdict READ 0
-firstFault f i (suc k) = verdict (f i) i orElse firstFault f (suc i) k
-
--- 01: "n or r out of range".
-abbrev pub inRange : (count most : ℕ) → Bool
-inRange count most = leb 1 count && leb count most
-
-abbrev pub countsFit : (n r : ℕ) → Bool
-countsFit n r = inRange n mostNodes && inRange r mostRules
-
--- 01: "slice length, bytes 1-2 and formula not all equal".
-abbrev pub allEqual : ℕ → ℕ → ℕ → Bool
-allEqual x y z = eqb x y && eqb x z
-
--- 01: "root not below n"; place "first such rule".
-unfoldable pub rootFault : List ℕ → ℕ → ℕ
-rootFault t a = cond (ltb (rootOf t a) (nodesOf t)) READ ROOT
-
--- 01's table of kinds as a test: fields a and b of node i, by its kind, in a table of r rules.
-unfoldable pub fieldsFit : (r i kind a b : ℕ) → Bool
-fieldsFit r i zero a b = eqb a 0 && eqb b 0
-fieldsFit r i (suc zero) a b = leb a b && leb b 255
-fieldsFit r i (suc (suc zero)) a b = ltb a r && eqb b 0
-fieldsFit r i (suc (suc (suc zero))) a b = ltb a i && ltb b i
-fieldsFit r i (suc (suc (suc (suc zero)))) a b = ltb a i && ltb b i
-fieldsFit r i (suc (suc (suc (suc (suc zero))))) a b = ltb a i && eqb b 0
-fieldsFit r i (suc (suc (suc (suc (suc (suc zero)))))) a b = ltb a i && eqb b 0
-fieldsFit r i (suc (suc (suc (suc (suc (suc (suc kind))))))) a b = false
-
--- 01: "kind above 6"; "a field against the kinds above"; "kind before fields".
-unfoldable pub faultOf : (r i kind a b : ℕ) → ℕ
-faultOf r i kind a b = cond (leb kind 6) (cond (fieldsFit r i kind a b) READ FIELD) KIND
-
-unfoldable pub nodeFault : List ℕ → ℕ → ℕ
-nodeFault t i = faultOf (rulesOf t) i (kindOf t i) (aOf t i) (bOf t i)
-
--- 01's table of codes, in its order. 01: "Nodes are tested in rising order, kind before fields."
+-- 01's rows from SHORT to FIELD; then W-209: "tested after every node has passed KIND and FIELD", place "the first such node".
 unfoldable pub checkOf : List ℕ → Verdict
-checkOf t =
-    unless (leb 7 (length t)) SHORT
-    orElse unless (eqb (byteAt t 0) 1) VERSION
-    orElse unless (countsFit (nodesOf t) (rulesOf t)) COUNT
-    orElse unless (allEqual (length t) (lengthOf t) (formula t)) LENGTH
-    orElse firstFault (rootFault t) 0 (rulesOf t)
-    orElse firstFault (nodeFault t) 0 (nodesOf t)
+checkOf t = layoutOf t orElse firstFault (loopFault t) 0 (nodesOf t)
 
 -- The check has nothing to refuse.
 unfoldable pub Accepted : List ℕ → Type 0

@@ -1,41 +1,28 @@
--- 01, "What comes back": when each code of the check is given, and at which place. A row's condition holds, and no earlier row's does.
-use mathlib.Core.Path.{_≡_}
+-- 01, "What comes back", and 02's W-209: when each code of the check is given, and at which place. A row's condition holds, and no earlier row's does.
 use mathlib.Core.Logic.{_≢_}
 use mathlib.Core.List.{List}
-use Prim.Native.Nat.{ℕ, _≤_, _<_}
-use lib.ListN.{length}
-use Rattle.sheet.specs.Table.{byteAt, lengthOf, nodesOf, mostNodes, rulesOf, mostRules, rootOf, formula, kindOf, NodeFits, WellFormed}
-use Rattle.sheet.specs.Check.{READ, SHORT, VERSION, COUNT, LENGTH, ROOT, KIND, FIELD}
+use Prim.Native.Nat.{ℕ, _<_}
+use Rattle.meaning.specs.Grammar.{node}
+use Rattle.meaning.specs.Report.{RepeatsNothing}
+use Rattle.layout.specs.Table.{nodesOf, grammarOf, WellLaid}
+use Rattle.layout.specs.Layout.{READ}
+use Rattle.layout.specs.Given as layout
+use Rattle.sheet.specs.Check.{LOOP}
 
--- n and r are in range.
-abbrev pub CountsFit : List ℕ → Type 0
-CountsFit t = ((1 ≤ nodesOf t) × (nodesOf t ≤ mostNodes)) × ((1 ≤ rulesOf t) × (rulesOf t ≤ mostRules))
+-- W-209: node i is "a repetition whose child may be empty".
+abbrev pub Loops : List ℕ → ℕ → Type 0
+Loops t i = RepeatsNothing (grammarOf t) (node (grammarOf t) i)
 
--- Slice length, bytes 1-2 and formula are all equal.
-abbrev pub LengthsAgree : List ℕ → Type 0
-LengthsAgree t = (length t ≡ lengthOf t) × (length t ≡ formula t)
+-- No node before node i is one.
+abbrev pub NoLoop : List ℕ → ℕ → Type 0
+NoLoop t i = (j : ℕ) → j < i → Loops t j → ⊥
 
--- No condition of the first four rows holds.
-pub record HeaderFits (t : List ℕ) : Type 0 where
-  pub long : 7 ≤ length t
-  pub version : byteAt t 0 ≡ 1
-  pub counts : CountsFit t
-  pub lengths : LengthsAgree t
-
--- Every root before rule a's is below n.
-abbrev pub RootsFit : List ℕ → ℕ → Type 0
-RootsFit t a = (b : ℕ) → b < a → rootOf t b < nodesOf t
-
--- Every node before node i is as the table of kinds says.
-abbrev pub NodesFit : List ℕ → ℕ → Type 0
-NodesFit t i = (j : ℕ) → j < i → NodeFits t j
+-- A table that is accepted: laid out as 01 describes it, and every repetition repeats something.
+pub record WellFormed (t : List ℕ) : Type 0 where
+  pub laid : WellLaid t
+  pub loops : NoLoop t (nodesOf t)
 
 pub data Given (t : List ℕ) : (code place : ℕ) → Type 0 where
-  short : length t < 7 → Given t SHORT 0
-  version : 7 ≤ length t → byteAt t 0 ≢ 1 → Given t VERSION 0
-  count : 7 ≤ length t → byteAt t 0 ≡ 1 → ¬ CountsFit t → Given t COUNT 0
-  lengths : 7 ≤ length t → byteAt t 0 ≡ 1 → CountsFit t → ¬ LengthsAgree t → Given t LENGTH 0
-  root : HeaderFits t → {a : ℕ} → a < rulesOf t → RootsFit t a → nodesOf t ≤ rootOf t a → Given t ROOT a
-  kind : HeaderFits t → RootsFit t (rulesOf t) → {i : ℕ} → i < nodesOf t → NodesFit t i → 6 < kindOf t i → Given t KIND i
-  field : HeaderFits t → RootsFit t (rulesOf t) → {i : ℕ} → i < nodesOf t → NodesFit t i → kindOf t i ≤ 6 → ¬ NodeFits t i → Given t FIELD i
+  laid-out : {code place : ℕ} → layout.Given t code place → code ≢ READ → Given t code place
+  loop : WellLaid t → {i : ℕ} → i < nodesOf t → NoLoop t i → Loops t i → Given t LOOP i
   read : WellFormed t → Given t READ 0

@@ -1,3 +1,4 @@
-pub mod Table
 pub mod Check
 pub mod Given
+pub mod Examine
+pub mod Search

@@ -1,151 +1,95 @@
-// The table of a sheet: its check, and what stands in a table that the check accepts.
+// The check of a sheet's table, on which every crate above relies.
 //
-// `check` takes any bytes, asks nothing of its caller and writes nowhere. It gives READ where they are a table as document 01 describes it;
-// else the first refusal of 01's table of codes, SHORT to FIELD, with its place. It goes once over the roots and once over the nodes.
-// Crates above rely on this promise alone: the other public functions ask that the check gave READ, and read one number of the table each.
+// `check` takes any bytes, asks nothing of its caller, is lent nothing and writes nowhere. It gives READ where they are a table as document 01 describes it and
+// no repetition has a child that may be empty; else the first refusal of 01's table of codes, SHORT to FIELD (the crate `layout`), or then LOOP (document 02,
+// W-209), with its place.
 //
-// What a reader must believe: specs/Table (what stands where in a table, which tables are well formed, which grammar a table is) and
-// specs/Given (when each code is given). specs/Check is the same as a procedure, which the contracts cite.
+// A table without a repetition costs nothing more. Else the repetitions are looked at from the first one on. A range is never empty, so where each repeats a
+// range nothing is worked out. Only else it is worked out which nodes may be empty (the crate `empties`), in eight words. `examine` is the same check for
+// those who need these nodes anyway, the report and the readings: it works them out once.
+//
+// What a reader must believe: specs/Given (when each code is given, and which tables are well formed), with layout's specs/Table and specs/Given and meaning's
+// Report behind it. specs/Check is the same as a procedure, which the contracts cite; specs/Search is for the code's own functions.
 // What is proved of it:
-//   proofs/Exact      each code is given exactly when its row of 01 says, at that place; a table is accepted exactly if it is well formed
-//   proofs/Accepting  the grammar of an accepted table is closed; its nodes and roots are the table's; a node's fields by its kind
-//   proofs/Worked     01's sheets A and B are accepted, and are the grammars that 01 lists
+//   proofs/Exact      each code is given exactly when its row says, at that place; a table is accepted exactly if it is well formed
+//   proofs/Accepting  an accepted table is laid out well, and its grammar has no repetition of nothing
+//   proofs/Searching  where the search for such a repetition may begin, and what it finds
+//   proofs/Worked     01's sheets A and B are accepted; `('kW'?)*` is not
 
 ghost use mathlib.Core.Path.{_≡_};
-ghost use mathlib.Core.Bool.{_&&_, cond};
-ghost use Prim.Native.Nat.{_+_, _%_, _<_, _≤_};
-ghost use lib.ListN.{length};
-ghost use Rattle.sheet.specs.Table.{pairAt, nodesOf, mostNodes, rulesOf, mostRules, rootOf, nodeAt, kindOf, fieldOf, aOf, bOf};
-ghost use Rattle.sheet.specs.Check.{READ, FIELD, _orElse_, firstFault, inRange, allEqual, rootFault, faultOf, nodeFault, checkOf, Accepted};
+ghost use Prim.Native.Nat.{_-_, _≤_};
+ghost use Rattle.layout.specs.Table.{nodesOf, nodeAt, rulesOf, grammarOf};
+ghost use Rattle.layout.specs.Layout.{firstFault, Laid, HasNode};
+ghost use Rattle.layout.specs.Survey.{isRepetition, FirstOf};
+ghost use Rattle.empties.specs.Empties.{EmptyNodes, Unmarked};
+ghost use Rattle.sheet.specs.Check.{loopFault, checkOf};
+ghost use Rattle.sheet.specs.Examine.{ExaminedAs};
+ghost use Rattle.sheet.specs.Search.{suspect};
+use layout::Verdict;
 
-// 01's codes.
-pub const READ: usize = 0;
+// The codes of 01 and 02 that the check gives.
+pub const READ: usize = layout::READ;
 
-pub const SHORT: usize = 1;
+pub const LOOP: usize = 17;
 
-pub const VERSION: usize = 2;
-
-pub const COUNT: usize = 3;
-
-pub const LENGTH: usize = 4;
-
-pub const ROOT: usize = 5;
-
-pub const KIND: usize = 6;
-
-pub const FIELD: usize = 7;
-
-// 01: "node count n, 1 to 512", "rule count r, 1 to 64".
-pub const MOST_NODES: usize = 512;
-
-pub const MOST_RULES: usize = 64;
-
-// What the check says: 01's code, and its place.
-pub struct Verdict {
+// What the check says, and the rules whose root may be empty; none where the table is not laid out well.
+pub struct Examined {
     pub code: usize,
     pub place: usize,
+    pub empty_rules: u64,
 }
 
-fn wide(x: u8) -> usize
-    ensures { λ r. ⌜ (r ≡ x) × (r < 256) ⌝ }
+// Whether node i is a repetition whose child is no range.
+fn suspect(table: &[u8], first: usize, i: usize) -> bool
+    requires { ⌜ HasNode (now table) first i ⌝ }
+    ensures { λ r. ⌜ r ≡ suspect (now (table .entry)) i ⌝ }
 {
-    x as usize
-}
-
-// The number of two bytes at a place, the higher first.
-fn pair(table: &[u8], at: usize) -> usize
-    requires { ⌜ at + 1 < length (now table) ⌝ }
-    ensures { λ r. ⌜ (r ≡ pairAt (now (table .entry)) at) × (r < 65536) ⌝ }
-{
-    wide(table[at]) * 256 + wide(table[at + 1])
-}
-
-fn both(p: bool, q: bool) -> bool
-    ensures { λ r. ⌜ r ≡ (p && q) ⌝ }
-{
-    if p { q } else { false }
-}
-
-fn in_range(count: usize, most: usize) -> bool
-    ensures { λ r. ⌜ r ≡ inRange count most ⌝ }
-{
-    both(1 <= count, count <= most)
-}
-
-fn all_equal(x: usize, y: usize, z: usize) -> bool
-    ensures { λ v. ⌜ v ≡ allEqual x y z ⌝ }
-{
-    both(x == y, x == z)
-}
-
-// FIELD unless both fields are as they should be.
-fn fields(a: bool, b: bool) -> usize
-    ensures { λ r. ⌜ r ≡ cond (a && b) READ FIELD ⌝ }
-{
-    if a {
-        if b { READ } else { FIELD }
-    } else {
-        FIELD
+    if layout::kind_from(table, first, i) != 6 {
+        return false;
     }
+    let child = layout::field_a_from(table, first, i);
+    layout::kind_from(table, first, child) != 1
 }
 
-// What is wrong with node i, of this kind and with these fields, in a table of r rules.
-fn fault(r: usize, i: usize, kind: usize, a: usize, b: usize) -> usize
-    ensures { λ v. ⌜ v ≡ faultOf r i kind a b ⌝ }
+// The first such node from one on, n if there is none.
+fn first_suspect(table: &[u8], n: usize, from: usize) -> usize
+    requires { ⌜ Laid (now table) × (n ≡ nodesOf (now table)) × (from ≤ n) ⌝ }
+    ensures { λ p. ⌜ FirstOf (suspect (now (table .entry))) from n p ⌝ }
 {
-    match kind {
-        0 => fields(a == 0, b == 0),
-        1 => fields(a <= b, b <= 255),
-        2 => fields(a < r, b == 0),
-        3 => fields(a < i, b < i),
-        4 => fields(a < i, b < i),
-        5 => fields(a < i, b == 0),
-        6 => fields(a < i, b == 0),
-        _ => KIND,
-    }
-}
-
-// What is wrong with node i of this table of r rules.
-fn node_fault(table: &[u8], r: usize, i: usize) -> usize
-    requires { ⌜ (nodeAt r (i + 1) ≤ length (now table)) × (i < mostNodes) × (r ≡ rulesOf (now table)) × (r ≤ mostRules) ⌝ }
-    ensures { λ v. ⌜ v ≡ nodeFault (now (table .entry)) i ⌝ }
-{
-    let at = 7 + 2 * r + 5 * i;
-    let kind = wide(table[at]);
-    let a = pair(table, at + 1);
-    let b = pair(table, at + 3);
-    fault(r, i, kind, a, b)
-}
-
-// The first rule whose root is not below n.
-fn roots(table: &[u8], n: usize, r: usize) -> Verdict
-    requires { ⌜ (nodeAt r 0 ≤ length (now table)) × (n ≡ nodesOf (now table)) × (r ≤ mostRules) ⌝ }
-    ensures { λ v. ⌜ v ≡ firstFault (rootFault (now (table .entry))) 0 r ⌝ }
-{
-    let mut a: usize = 0;
-    while a < r {
-        if n <= pair(table, 7 + 2 * a) {
-            return Verdict {
-                code: ROOT,
-                place: a,
-            };
-        }
-        a += 1;
-    }
-    Verdict {
-        code: READ,
-        place: 0,
-    }
-}
-
-// The first node whose kind or fields are not as 01's table of kinds says.
-fn nodes(table: &[u8], n: usize, r: usize) -> Verdict
-    requires { ⌜ (nodeAt r n ≤ length (now table)) × (n ≤ mostNodes) × (r ≡ rulesOf (now table)) × (r ≤ mostRules) ⌝ }
-    ensures { λ v. ⌜ v ≡ firstFault (nodeFault (now (table .entry))) 0 n ⌝ }
-{
-    let mut i: usize = 0;
+    let first = layout::first_node(table);
+    let mut i = from;
     while i < n {
-        let code = node_fault(table, r, i);
+        if suspect(table, first, i) {
+            return i;
+        }
+        i += 1;
+    }
+    n
+}
+
+// LOOP where node i is a repetition whose child is marked as one that may be empty.
+fn loop_fault(table: &[u8], first: usize, marks: &[u64; 8], i: usize) -> usize
+    requires { ⌜ HasNode (now table) first i × EmptyNodes (grammarOf (now table)) (now marks) ⌝ }
+    ensures { λ v. ⌜ v ≡ loopFault (now (table .entry)) i ⌝ }
+{
+    if layout::kind_from(table, first, i) != 6 {
+        return READ;
+    }
+    if bits::marked(marks, layout::field_a_from(table, first, i)) {
+        return LOOP;
+    }
+    READ
+}
+
+// The first such node from one on.
+fn first_loop(table: &[u8], marks: &[u64; 8], n: usize, from: usize) -> Verdict
+    requires { ⌜ Laid (now table) × (n ≡ nodesOf (now table)) × (from ≤ n) × EmptyNodes (grammarOf (now table)) (now marks) ⌝ }
+    ensures { λ v. ⌜ v ≡ firstFault (loopFault (now (table .entry))) from (n - from) ⌝ }
+{
+    let first = layout::first_node(table);
+    let mut i = from;
+    while i < n {
+        let code = loop_fault(table, first, marks, i);
         if code != READ {
             return Verdict { code, place: i };
         }
@@ -157,132 +101,57 @@ fn nodes(table: &[u8], n: usize, r: usize) -> Verdict
     }
 }
 
-// The first of two, unless it has nothing to refuse.
-fn first(v: Verdict, w: Verdict) -> Verdict
-    ensures { λ r. ⌜ r ≡ v orElse w ⌝ }
+// The first repetition of nothing in a table whose first repetition is known.
+fn loops(table: &[u8], n: usize, repetition: usize) -> Verdict
+    requires { ⌜ Laid (now table) × (n ≡ nodesOf (now table)) × FirstOf (isRepetition (now table)) 0 n repetition ⌝ }
+    ensures { λ v. ⌜ v ≡ firstFault (loopFault (now (table .entry))) 0 n ⌝ }
 {
-    if v.code == READ {
-        return w;
+    let from = first_suspect(table, n, repetition);
+    if from == n {
+        return Verdict {
+            code: READ,
+            place: 0,
+        };
     }
-    v
+    let mut marks = [0u64; 8];
+    empties::mark_empties(table, &mut marks);
+    first_loop(table, &marks, n, from)
 }
 
-// READ where the table is accepted; else what 01's order of checks refuses first, and its place.
+// The same check for a caller who lends eight words without a mark: of a table that is laid out well they are left with the nodes marked that may be empty,
+// and the rules are given whose root may be.
+pub fn examine(table: &[u8], marks: &mut [u64; 8]) -> Examined
+    requires { ⌜ Unmarked (now marks) ⌝ }
+    ensures { λ x. ⌜ ExaminedAs (now (table .entry)) (now (marks .entry)) (now (marks .exit)) x ⌝ }
+{
+    let v = layout::check(table);
+    if v.code != READ {
+        return Examined {
+            code: v.code,
+            place: v.place,
+            empty_rules: 0,
+        };
+    }
+    let empty_rules = empties::mark_empties(table, marks);
+    let found = first_loop(table, marks, layout::node_count(table), v.repetition);
+    Examined {
+        code: found.code,
+        place: found.place,
+        empty_rules,
+    }
+}
+
+// READ where the table is accepted; else what the order of checks refuses first, and its place.
 pub fn check(table: &[u8]) -> Verdict
     ensures { λ v. ⌜ v ≡ checkOf (now (table .entry)) ⌝ }
 {
-    if table.len() < 7 {
+    let v = layout::check(table);
+    if v.code != READ {
         return Verdict {
-            code: SHORT,
-            place: 0,
+            code: v.code,
+            place: v.place,
         };
     }
-    if table[0] != 1 {
-        return Verdict {
-            code: VERSION,
-            place: 0,
-        };
-    }
-    let n = pair(table, 3);
-    let r = pair(table, 5);
-    if !both(in_range(n, MOST_NODES), in_range(r, MOST_RULES)) {
-        return Verdict {
-            code: COUNT,
-            place: 0,
-        };
-    }
-    if !all_equal(table.len(), pair(table, 1), 7 + 2 * r + 5 * n) {
-        return Verdict {
-            code: LENGTH,
-            place: 0,
-        };
-    }
-    let at_roots = roots(table, n, r);
-    let at_nodes = nodes(table, n, r);
-    first(at_roots, at_nodes)
-}
-
-// ---- What stands in an accepted table.
-
-pub fn node_count(table: &[u8]) -> usize
-    requires { ⌜ Accepted (now table) ⌝ }
-    ensures { λ n. ⌜ (n ≡ nodesOf (now (table .entry))) × (0 < n) × (n ≤ mostNodes) ⌝ }
-{
-    pair(table, 3)
-}
-
-pub fn rule_count(table: &[u8]) -> usize
-    requires { ⌜ Accepted (now table) ⌝ }
-    ensures { λ r. ⌜ (r ≡ rulesOf (now (table .entry))) × (0 < r) × (r ≤ mostRules) ⌝ }
-{
-    pair(table, 5)
-}
-
-pub fn root(table: &[u8], a: usize) -> usize
-    requires { ⌜ Accepted (now table) × (a < rulesOf (now table)) ⌝ }
-    ensures { λ i. ⌜ (i ≡ rootOf (now (table .entry)) a) × (i < nodesOf (now (table .entry))) ⌝ }
-{
-    pair(table, 7 + 2 * a)
-}
-
-// Where the nodes start.
-pub fn first_node(table: &[u8]) -> usize
-    requires { ⌜ Accepted (now table) ⌝ }
-    ensures { λ p. ⌜ (p ≡ nodeAt (rulesOf (now (table .entry))) 0) × (p ≤ 135) ⌝ }
-{
-    7 + 2 * rule_count(table)
-}
-
-// The kind of node i, for a caller who knows where the nodes start.
-pub fn kind_from(table: &[u8], first: usize, i: usize) -> usize
-    requires { ⌜ Accepted (now table) × ((i < nodesOf (now table)) × (first ≡ nodeAt (rulesOf (now table)) 0)) ⌝ }
-    ensures { λ k. ⌜ (k ≡ kindOf (now (table .entry)) i) × (k ≤ 6) ⌝ }
-{
-    let at = first + 5 * i;
-    wide(table[at])
-}
-
-// The field of node i that stands at this byte of the node: 1 for field a, 3 for field b.
-fn field_from(table: &[u8], first: usize, i: usize, at: usize) -> usize
-    requires { ⌜ Accepted (now table) × ((i < nodesOf (now table)) × (first ≡ nodeAt (rulesOf (now table)) 0)) ⌝ }
-    requires { ⌜ (at % 2 ≡ 1) × (at ≤ 3) ⌝ }
-    ensures { λ r. ⌜ (r ≡ fieldOf (now (table .entry)) i at) × (r < mostNodes) ⌝ }
-{
-    pair(table, first + 5 * i + at)
-}
-
-pub fn field_a_from(table: &[u8], first: usize, i: usize) -> usize
-    requires { ⌜ Accepted (now table) × ((i < nodesOf (now table)) × (first ≡ nodeAt (rulesOf (now table)) 0)) ⌝ }
-    ensures { λ a. ⌜ (a ≡ aOf (now (table .entry)) i) × (a < mostNodes) ⌝ }
-{
-    field_from(table, first, i, 1)
-}
-
-pub fn field_b_from(table: &[u8], first: usize, i: usize) -> usize
-    requires { ⌜ Accepted (now table) × ((i < nodesOf (now table)) × (first ≡ nodeAt (rulesOf (now table)) 0)) ⌝ }
-    ensures { λ b. ⌜ (b ≡ bOf (now (table .entry)) i) × (b < mostNodes) ⌝ }
-{
-    field_from(table, first, i, 3)
-}
-
-// The same, for a caller who does not.
-pub fn kind(table: &[u8], i: usize) -> usize
-    requires { ⌜ Accepted (now table) × (i < nodesOf (now table)) ⌝ }
-    ensures { λ k. ⌜ (k ≡ kindOf (now (table .entry)) i) × (k ≤ 6) ⌝ }
-{
-    kind_from(table, first_node(table), i)
-}
-
-pub fn field_a(table: &[u8], i: usize) -> usize
-    requires { ⌜ Accepted (now table) × (i < nodesOf (now table)) ⌝ }
-    ensures { λ a. ⌜ (a ≡ aOf (now (table .entry)) i) × (a < mostNodes) ⌝ }
-{
-    field_a_from(table, first_node(table), i)
-}
-
-pub fn field_b(table: &[u8], i: usize) -> usize
-    requires { ⌜ Accepted (now table) × (i < nodesOf (now table)) ⌝ }
-    ensures { λ b. ⌜ (b ≡ bOf (now (table .entry)) i) × (b < mostNodes) ⌝ }
-{
-    field_b_from(table, first_node(table), i)
+    let n = layout::node_count(table);
+    loops(table, n, v.repetition)
 }

@@ -63,7 +63,7 @@ module _ (given : Given) (line : List ℕ) (fit : Fit given line) where
     unfolding apply
     apply-empty k inside = applied-as given line fit i 0 li k left pos (match-still given line fit words le pos inside)
 
-    -- A kind above 6 is in no accepted table; it would be an empty node.
+    -- A kind above 6 is in no table that is laid out well; it would be an empty node.
     pub apply-above : (n : ℕ) → kindIn given i ≡ 7 + n → pos ≤ length line → Came given line w w live made top (result pos 0 top made) (λ l s. applies given line left l i pos s)
     unfolding apply
     apply-above n k inside =

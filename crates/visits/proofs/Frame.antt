@@ -11,7 +11,7 @@ use Rattle.meaning.specs.Reading.{State}
 use Rattle.meaning.specs.Grammar.{Trees, Answer, Note}
 use Rattle.cells.specs.Cells.{treesAt}
 use Rattle.cells.proofs.Frame.{trees-same, arena-same}
-use Rattle.sheet.proofs.Accepting.{well-formed}
+use Rattle.layout.proofs.Laying.{well-laid}
 use Rattle.visits.specs.Given.{Given, nodesIn, keepsIn, baseIn, allowanceIn, pairsIn, Fit}
 use Rattle.visits.specs.Words.{HeldAs, Entry, Lives, topIn, madeIn, placeIn, keptAs, keptAt, Stands, Words, Same, Added}
 
@@ -55,7 +55,7 @@ module _ (given : Given) (line : List ℕ) where
   pair-in i x li lx = let z : (i + 1) * (length line + 1) ≤ pairsIn given line = mul-le-mul-right (length line + 1) (omega arith) in omega arith
 
   pub pairs-few : Fit given line → pairsIn given line ≤ 131072
-  pairs-few fit = let l : length line + 1 ≤ 256 = let z = fit .short in omega arith in mul-le-mul (well-formed (given .table) (fit .accepted) .few-nodes) l
+  pairs-few fit = let l : length line + 1 ≤ 256 = let z = fit .short in omega arith in mul-le-mul (well-laid (given .table) (fit .laid) .few-nodes) l
 
   kept-as : (v v′ : ℕ) (ts us : Trees) → v′ ≡ v → us ≡ ts → keptAs v′ us ≡ keptAs v ts
   kept-as v v′ ts us e f = rw (e, f)

@@ -6,7 +6,7 @@ use mathlib.Core.List.{List, []}
 use Prim.Native.Nat.{ℕ, _+_, _-_, _*_, _<_, _≤_}
 use native.Mathlib.Omega.{arith}
 use lib.ListN.{length, getD, set}
-use Rattle.sheet.proofs.Accepting.{well-formed}
+use Rattle.layout.proofs.Laying.{well-laid}
 use Rattle.visits.specs.Given.{Given, lent, nodesIn, keepsIn, allowanceIn, roomIn, leftIn, liveIn, posIn, Fit}
 use Rattle.visits.specs.Words.{topIn, madeIn, placeIn, Entered, Roomy, Kept}
 use Rattle.visits.specs.Says.{FAILED, STOPPED, endIn, listIn, Came, reading, applies, opens, Starts, Ends, EndsVisit}
@@ -21,7 +21,7 @@ use Rattle.visits.proofs.Depth.{left-less, pos-less, space-open, starts
 pub roomy : (given : Given) (line w : List ℕ) (i x : ℕ) → Fit given line → roomIn given line ≤ length w → i < nodesIn given → x ≤ length line → Roomy (lent [] (given .numbers)) line w i x
 roomy given line w i x fit room li lx =
     let z = pair-in given line i x li lx in
-    let n = well-formed (given .table) (fit .accepted) .few-nodes in
+    let n = well-laid (given .table) (fit .laid) .few-nodes in
     record { short = fit .short; allowance = fit .allowance; node-in = omega arith; pos-in = lx; room = omega arith }
 
 -- What is kept lies above the words of the cells in use and of the visits made.

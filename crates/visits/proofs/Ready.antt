@@ -6,10 +6,10 @@ use native.Mathlib.Omega.{arith}
 use lib.ListN.{length, getD}
 use Rattle.meaning.specs.Grammar.{node, rootOf, Below, Note}
 use Rattle.meaning.specs.Reading.{State, Run, Visit, apply}
-use Rattle.sheet.specs.Table.{nodeAt, decode}
-use Rattle.sheet.specs.Check.{Accepted}
-use Rattle.sheet.proofs.Accepting.{well-formed, node-count, rule-count, closed}
-use Rattle.sheet.proofs.Accepting.{root-is as root-of-grammar, node-as as node-of-table}
+use Rattle.layout.specs.Table.{nodeAt, decode}
+use Rattle.layout.specs.Layout.{Laid}
+use Rattle.layout.proofs.Laying.{well-laid, node-count, rule-count, closed}
+use Rattle.layout.proofs.Laying.{root-is as root-of-grammar, node-as as node-of-table}
 use Rattle.visits.specs.Given.{Given, kindIn, aIn, bIn, rootIn, nodesIn, rulesIn, grammarIn, Fit}
 use Rattle.visits.specs.Words.{keyOf}
 use Rattle.visits.specs.Says.{Visited, Ready, Came, reading, uses, applies}
@@ -44,8 +44,8 @@ module _ {given : Given} {line : List ℕ} where
       record { fit = r .fit; words = g .words; node-in = r .node-in; pos-in = r .pos-in; open-in = r .open-in; made-in = g .made-in; top-in = omega arith }
 
   -- What is asked for a node's kind and fields.
-  pub node-known : {w : List ℕ} {left live made top i pos : ℕ} → Ready given line w left live made top i pos → Accepted (given .table) × ((i < nodesIn given) × (getD (given .numbers) 2 0 ≡ nodeAt (rulesIn given) 0))
-  node-known r = (r .fit .accepted, (r .node-in, r .fit .first))
+  pub node-known : {w : List ℕ} {left live made top i pos : ℕ} → Ready given line w left live made top i pos → Laid (given .table) × ((i < nodesIn given) × (getD (given .numbers) 2 0 ≡ nodeAt (rulesIn given) 0))
+  node-known r = (r .fit .laid, (r .node-in, r .fit .first))
 
   -- Another node at the same position.
   pub ready-at : {w : List ℕ} {left live made top i pos : ℕ} (j : ℕ) → Ready given line w left live made top i pos → j < nodesIn given → Ready given line w left live made top j pos
@@ -59,14 +59,14 @@ module _ (given : Given) (line : List ℕ) (fit : Fit given line) where
   root-is a h = sym (root-of-grammar (given .table) a h)
 
   pub root-in : (a : ℕ) → a < rulesIn given → rootIn given a < nodesIn given
-  root-in a h = well-formed (given .table) (fit .accepted) .roots a h
+  root-in a h = well-laid (given .table) (fit .laid) .roots a h
 
   module _ (i k : ℕ) (li : i < nodesIn given) (is : kindIn given i ≡ k) where
     node-as : node (grammarIn given) i ≡ decode k (aIn given i) (bIn given i)
     node-as = node-of-table (given .table) i li k is
 
     pub below-as : Below (grammarIn given) i (decode k (aIn given i) (bIn given i))
-    below-as = subst (Below (grammarIn given) i) node-as (closed (given .table) (fit .accepted) .nodes i (rw (node-count (given .table)) li))
+    below-as = subst (Below (grammarIn given) i) node-as (closed (given .table) (fit .laid) .nodes i (rw (node-count (given .table)) li))
 
     -- What its application is.
     pub applied-as : {w w′ : List ℕ} {live made top : ℕ} {r : Visited} (left pos : ℕ)

@@ -7,8 +7,8 @@ use mathlib.Core.List.{List}
 use lib.ListN.{length, getD}
 use lib.Dec.{ltb}
 use Rattle.meaning.specs.Grammar.{Grammar}
-use Rattle.sheet.specs.Table.{nodesOf, rulesOf, rootOf, nodeAt, kindOf, aOf, bOf, grammarOf}
-use Rattle.sheet.specs.Check.{Accepted}
+use Rattle.layout.specs.Table.{nodesOf, rulesOf, rootOf, nodeAt, kindOf, aOf, bOf, grammarOf}
+use Rattle.layout.specs.Layout.{Laid}
 
 pub record Given : Type 0 where
   pub table : List ℕ
@@ -73,16 +73,16 @@ workNeeded allowance nodes long = 2048 + 4 * allowance + 2 * (nodes * (long + 1)
 abbrev pub roomIn : Given → List ℕ → ℕ
 roomIn given line = workNeeded (allowanceIn given) (nodesIn given) (length line)
 
--- What the check promises of the table, and how large the others are.
+-- What the check promises of the table that a visit relies on, and how large the others are.
 pub record Fit (given : Given) (line : List ℕ) : Type 0 where
-  pub accepted : Accepted (given .table)
+  pub laid : Laid (given .table)
   pub first : firstIn given ≡ nodeAt (rulesIn given) 0
   pub short : length line ≤ longestLine
   pub allowance : allowanceIn given ≤ mostAllowance
 
--- Node i can be read: the table was accepted, has the node, and its nodes start where it says.
+-- Node i can be read: the table is laid out well, has the node, and its nodes start where it says.
 abbrev pub HasNode : Given → ℕ → Type 0
-HasNode given i = Accepted (given .table) × ((i < nodesIn given) × (firstIn given ≡ nodeAt (rulesIn given) 0))
+HasNode given i = Laid (given .table) × ((i < nodesIn given) × (firstIn given ≡ nodeAt (rulesIn given) 0))
 
 -- Rule a is one of the sheet's.
 abbrev pub HasRule : Given → ℕ → Type 0

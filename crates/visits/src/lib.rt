@@ -18,8 +18,8 @@ ghost use lib.ListN.{length, getD};
 ghost use lib.Seq.{sets};
 ghost use Rattle.meaning.specs.Grammar.{no-trees, tree, _⋈_, fits};
 ghost use Rattle.meaning.specs.Reading.{byte};
-ghost use Rattle.sheet.specs.Table.{nodesOf, rulesOf, rootOf, nodeAt, kindOf, aOf, bOf};
-ghost use Rattle.sheet.specs.Check.{Accepted};
+ghost use Rattle.layout.specs.Table.{nodesOf, rulesOf, rootOf, nodeAt, kindOf, aOf, bOf};
+ghost use Rattle.layout.specs.Layout.{Laid};
 ghost use Rattle.cells.specs.Cells.{treesAt};
 ghost use Rattle.visits.specs.Given.{lent, longestLine, mostAllowance, allowanceIn, nodesIn, rulesIn, keepsIn, HasNode, HasRule, IsPair, IsOpen, beginning, leftIn, liveIn, posIn, Moved};
 ghost use Rattle.visits.specs.Words.{FAILED, keyOf, topWord, topIn, madeIn, placeIn, NotLive, HasList, HasLists, HasCell, Adds, Entered, HasPair, Roomy, Kept, Found};
@@ -95,28 +95,28 @@ fn kind_of(given: &[u32; 3], table: &[u8], node: u32) -> u32
     requires { ⌜ HasNode (lent (now table) (now given)) node ⌝ }
     ensures { λ r. ⌜ (r ≡ kindOf (now (table .entry)) node) × (r < 7) ⌝ }
 {
-    sheet::kind_from(table, given[FIRST_NODE] as usize, node as usize) as u32
+    layout::kind_from(table, given[FIRST_NODE] as usize, node as usize) as u32
 }
 
 fn a_of(given: &[u32; 3], table: &[u8], node: u32) -> u32
     requires { ⌜ HasNode (lent (now table) (now given)) node ⌝ }
     ensures { λ r. ⌜ (r ≡ aOf (now (table .entry)) node) × (r < 512) ⌝ }
 {
-    sheet::field_a_from(table, given[FIRST_NODE] as usize, node as usize) as u32
+    layout::field_a_from(table, given[FIRST_NODE] as usize, node as usize) as u32
 }
 
 fn b_of(given: &[u32; 3], table: &[u8], node: u32) -> u32
     requires { ⌜ HasNode (lent (now table) (now given)) node ⌝ }
     ensures { λ r. ⌜ (r ≡ bOf (now (table .entry)) node) × (r < 512) ⌝ }
 {
-    sheet::field_b_from(table, given[FIRST_NODE] as usize, node as usize) as u32
+    layout::field_b_from(table, given[FIRST_NODE] as usize, node as usize) as u32
 }
 
 fn root_of(table: &[u8], rule: u32) -> u32
-    requires { ⌜ Accepted (now table) × (rule < rulesOf (now table)) ⌝ }
+    requires { ⌜ Laid (now table) × (rule < rulesOf (now table)) ⌝ }
     ensures { λ r. ⌜ (r ≡ rootOf (now (table .entry)) rule) × (r < nodesOf (now (table .entry))) ⌝ }
 {
-    sheet::root(table, rule as usize) as u32
+    layout::root(table, rule as usize) as u32
 }
 
 // Where a visit stands, in one number: its position, the live uses, and the open visits left.

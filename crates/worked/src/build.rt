@@ -54,6 +54,10 @@ pub(crate) fn node(table: &mut Table, i: usize, kind: usize, a: usize, b: usize)
     }
 }
 
+pub(crate) fn empty(table: &mut Table, i: usize) {
+    node(table, i, 0, 0, 0);
+}
+
 pub(crate) fn range(table: &mut Table, i: usize, lowest: usize, highest: usize) {
     node(table, i, 1, lowest, highest);
 }

@@ -2,6 +2,7 @@
 mod build;
 mod limits;
 mod lines;
+mod loops;
 mod say;
 mod sheets;
 mod tables;
@@ -24,4 +25,8 @@ fn main() {
     tables::kinds();
     tables::fields();
     tables::order();
+    loops::kilowatts();
+    loops::over_rules();
+    loops::over_nodes();
+    loops::order();
 }

@@ -1,6 +1,7 @@
 // The sheets of the worked lines; each gives its table's length.
 use crate::build::Table;
 use crate::build::choice;
+use crate::build::empty;
 use crate::build::head;
 use crate::build::not;
 use crate::build::range;
@@ -160,5 +161,109 @@ pub(crate) fn doubling(table: &mut Table, rules: usize) -> usize
         seq(table, top, top - 1, top - 1);
         q += 1;
     }
+    length
+}
+
+// ('kW'?)*, a repetition of nothing
+pub(crate) fn kilowatts_or_nothing(table: &mut Table) -> usize {
+    let length = head(table, 6, 1);
+    root(table, 0, 5);
+    range(table, 0, 107, 107);
+    range(table, 1, 87, 87);
+    seq(table, 2, 0, 1);
+    empty(table, 3);
+    choice(table, 4, 2, 3);
+    rep(table, 5, 4);
+    length
+}
+
+// 'kW'*, in the same nodes
+pub(crate) fn kilowatts(table: &mut Table) -> usize {
+    let length = kilowatts_or_nothing(table);
+    rep(table, 5, 2);
+    length
+}
+
+// S <- R*; R <- R 'a' / (empty)
+pub(crate) fn over_left_recursion(table: &mut Table) -> usize {
+    let length = head(table, 6, 2);
+    root(table, 0, 5);
+    root(table, 1, 4);
+    rule(table, 0, 1);
+    range(table, 1, 97, 97);
+    seq(table, 2, 0, 1);
+    empty(table, 3);
+    choice(table, 4, 2, 3);
+    rep(table, 5, 0);
+    length
+}
+
+// S <- P*; P <- Q Q / 'a'; Q <- P / (empty)
+pub(crate) fn over_two_rules(table: &mut Table) -> usize {
+    let length = head(table, 8, 3);
+    root(table, 0, 7);
+    root(table, 1, 4);
+    root(table, 2, 6);
+    rule(table, 0, 1);
+    rule(table, 1, 2);
+    seq(table, 2, 1, 1);
+    range(table, 3, 97, 97);
+    choice(table, 4, 2, 3);
+    empty(table, 5);
+    choice(table, 6, 0, 5);
+    rep(table, 7, 0);
+    length
+}
+
+// S <- P*; P <- Q; Q <- P: neither may be empty
+pub(crate) fn over_two_needs(table: &mut Table) -> usize {
+    let length = head(table, 3, 3);
+    root(table, 0, 2);
+    root(table, 1, 1);
+    root(table, 2, 0);
+    rule(table, 0, 1);
+    rule(table, 1, 2);
+    rep(table, 2, 0);
+    length
+}
+
+// Three nodes, 'a' first, and one rule with this root.
+fn put_three(table: &mut Table, top: usize) -> usize {
+    let length = head(table, 3, 1);
+    root(table, 0, top);
+    range(table, 0, 97, 97);
+    length
+}
+
+// S <- (!'a')*
+pub(crate) fn over_a_not(table: &mut Table) -> usize {
+    let length = put_three(table, 2);
+    not(table, 1, 0);
+    rep(table, 2, 1);
+    length
+}
+
+// S <- ('a'*)*
+pub(crate) fn over_a_repetition(table: &mut Table) -> usize {
+    let length = put_three(table, 2);
+    rep(table, 1, 0);
+    rep(table, 2, 1);
+    length
+}
+
+// S <- 'a', and a repetition of the empty node that nobody uses
+pub(crate) fn never_used(table: &mut Table) -> usize {
+    let length = put_three(table, 0);
+    empty(table, 1);
+    rep(table, 2, 1);
+    length
+}
+
+// S <- ((empty)*)*
+pub(crate) fn two_of_them(table: &mut Table) -> usize {
+    let length = put_three(table, 2);
+    empty(table, 0);
+    rep(table, 1, 0);
+    rep(table, 2, 1);
     length
 }

@@ -1,6 +1,6 @@
 //! Times each reader on a thousand lines of four sheets, by the visit on lines
-//! of up to 255 bytes and with up to 409 uses live at once, and its report on
-//! small and full tables.
+//! of up to 255 bytes and with up to 409 uses live at once, and its check and
+//! its report on small and full tables.
 //!
 //! A reading is timed as a whole: check, report, reading, storing, clearing.
 //! Clearing is part of it, since the rules say what is left in the working
@@ -20,8 +20,8 @@ use std::time::Instant;
 use by_visit::lines_by_the_visit;
 use cases::Random;
 use koskorbelu::{work_needed, MOST_STORED};
-use readers::{readers, Reader};
-use sheets::{sheet_a, sheet_b, sum};
+use readers::{readers, Question, Reader};
+use sheets::{sheet_a, sheet_b, sum, thousands};
 
 /// What the program lends for each line.
 const ALLOWANCE: u64 = 2_500;
@@ -40,6 +40,17 @@ struct Pace {
 const CLASS: Pace = Pace {
     repetitions: 60,
     calls: 4,
+};
+
+const REPORT: Pace = Pace {
+    repetitions: 300,
+    calls: 4,
+};
+
+/// A check of a small table is over before the clock is read.
+const CHECK: Pace = Pace {
+    repetitions: 300,
+    calls: 64,
 };
 
 impl Pace {
@@ -125,15 +136,46 @@ fn main() {
         );
         print_columns(&readers, &times, visits as f64, 2);
     }
+    for (name, table) in check_tables() {
+        println!();
+        println!("check, {name}: {} bytes", table.len());
+        print_times("check", &readers, &table, CHECK, |reader| reader.check);
+    }
     for (name, table) in report_tables() {
         println!();
         println!("report, {name}: {} bytes", table.len());
-        print_reports(&readers, &table);
+        print_times("report", &readers, &table, REPORT, |reader| reader.report);
     }
 }
 
-/// Small and full ones; with the last three it matters what rule 0 reaches.
-fn report_tables() -> [(&'static str, Vec<u8>); 7] {
+type Named = (&'static str, Vec<u8>);
+
+/// In the last three a repetition's child is no range, so that it has to be
+/// worked out what may be empty.
+fn check_tables() -> [Named; 6] {
+    let [every, none] = repeated_tables();
+    [
+        ("sheet A", sheet_a().bytes()),
+        ("sheet B", sheet_b().bytes()),
+        ("sum", sum().bytes()),
+        ("thousands", thousands().bytes()),
+        every,
+        none,
+    ]
+}
+
+fn repeated_tables() -> [Named; 2] {
+    [
+        ("full, repetitions, all may be empty", repeated(true)),
+        ("full, repetitions, none may be empty", repeated(false)),
+    ]
+    .map(|(name, sheet)| (name, sheet.bytes()))
+}
+
+/// Small and full ones; with three it matters what rule 0 reaches. The check is
+/// part of a report.
+fn report_tables() -> [Named; 10] {
+    let [every, none] = repeated_tables();
     [
         ("sheet A", sheet_a().bytes()),
         ("sheet B", sheet_b().bytes()),
@@ -142,6 +184,9 @@ fn report_tables() -> [(&'static str, Vec<u8>); 7] {
         ("sheet B with a rule unused", with_a_rule_unused().bytes()),
         ("sheet A after a word", after_a_word().bytes()),
         ("full, the last is reached", full_reach().bytes()),
+        ("sum", sum().bytes()),
+        every,
+        none,
     ]
 }
 
@@ -217,19 +262,57 @@ fn full(last_may_be_empty: bool) -> sheets::Sheet {
     sheet
 }
 
-/// The least time of a report by each reader, and the ratio to the baseline.
-fn print_reports(readers: &[Reader], table: &[u8]) {
+/// 64 rules of 8 nodes, two of them repetitions whose child takes a byte:
+///
+/// ```text
+/// R <- 'a' / N ('a' ('a' N)*)*    where N is the next rule, the first after the last
+/// ```
+///
+/// If the last rule begins with the repetition, so may all be empty, and this
+/// is learnt one rule at a time.
+fn repeated(last_may_be_empty: bool) -> sheets::Sheet {
+    let mut sheet = sheets::Sheet::new();
+    for rule in 0..64 {
+        let next = sheet.rule((rule + 1) % 64);
+        let byte = sheet.byte(b'a');
+        let more = sheet.sequence(byte, next);
+        let inner = sheet.repetition(more);
+        let some = sheet.sequence(byte, inner);
+        let outer = sheet.repetition(some);
+        let longer = sheet.sequence(next, outer);
+        let first = if last_may_be_empty && rule == 63 {
+            outer
+        } else {
+            byte
+        };
+        let root = sheet.choice(first, longer);
+        sheet.root(root);
+    }
+    sheet
+}
+
+/// The least time of a check or report by each reader, and the ratio to the
+/// baseline.
+fn print_times<const NUMBERS: usize>(
+    what: &str,
+    readers: &[Reader],
+    table: &[u8],
+    pace: Pace,
+    question: fn(&Reader) -> Question<NUMBERS>,
+) {
+    let expected = question(&readers[0])(table);
     let mut least = vec![f64::INFINITY; readers.len()];
-    for _ in 0..CLASS.repetitions * 5 {
+    for _ in 0..pace.repetitions {
         for (reader, least) in readers.iter().zip(&mut least) {
-            assert_eq!((reader.report)(table), (readers[0].report)(table));
-            let once = time_calls(CLASS.calls, || {
-                black_box((reader.report)(black_box(table)));
+            let ask = question(reader);
+            assert_eq!(ask(table), expected);
+            let once = time_calls(pace.calls, || {
+                black_box(ask(black_box(table)));
             });
             *least = least.min(once);
         }
     }
-    println!("  ns a report      whole  ratio");
+    println!("  ns a {what:12}whole  ratio");
     for (reader, time) in readers.iter().zip(&least) {
         println!("  {:12} {:9.0} {:6.2}", reader.name, time, time / least[0]);
     }
@@ -383,7 +466,7 @@ fn median(mut times: Vec<f64>) -> f64 {
 mod tests {
     use super::*;
 
-    /// In the last three a rule is left-recursive, and rule 0 is not.
+    /// From the fifth to the seventh a rule is left-recursive, and rule 0 is not.
     #[test]
     fn what_the_report_tables_are() {
         let found = report_tables().map(|(_, table)| {
@@ -392,7 +475,26 @@ mod tests {
         });
         assert_eq!(found[..2], [(1, 0, false), (0, 64, true)]);
         assert_eq!(found[2..4], [(64, 0, false); 2]);
-        assert_eq!(found[4..], [(1, 2, true), (1, 1, false), (1, 63, false)]);
+        assert_eq!(found[4..7], [(1, 2, true), (1, 1, false), (1, 63, false)]);
+        assert_eq!(found[7..], [(2, 0, false), (64, 0, false), (64, 0, false)]);
+    }
+
+    /// Of 512 nodes 128 are repetitions, none of a range, and all rules or none
+    /// may be empty.
+    #[test]
+    fn what_the_repeated_tables_are() {
+        for (all, mask) in [(true, u64::MAX), (false, 0)] {
+            let sheet = repeated(all);
+            assert_eq!((sheet.nodes.len(), sheet.roots.len()), (512, 64));
+            let is_range = |child: u16| sheet.nodes[usize::from(child)].0 == 1;
+            let repeated = |node: &&sheets::Node| node.0 == 6 && !is_range(node.1);
+            assert_eq!(sheet.nodes.iter().filter(repeated).count(), 128);
+            let report = independent::report(&sheet.bytes());
+            assert_eq!(
+                (report.code, report.may_be_empty),
+                (independent::READ, mask)
+            );
+        }
     }
 
     /// Readers that differ are not compared by the clock.
@@ -405,6 +507,13 @@ mod tests {
         for (sheet, _) in lines_by_the_visit() {
             let work = sheet.cleared(&sheet.lines[0]);
             agree(&readers, &sheet, &mut Lent::new(work));
+        }
+        for (name, table) in check_tables().into_iter().chain(report_tables()) {
+            for reader in &readers {
+                let given = ((reader.check)(&table), (reader.report)(&table));
+                let first = ((readers[0].check)(&table), (readers[0].report)(&table));
+                assert_eq!(given, first, "{} differs on {name}", reader.name);
+            }
         }
     }
 }

@@ -2,15 +2,15 @@
 
 use cases::Read;
 
-/// Code and place.
-type Check = fn(&[u8]) -> [u64; 2];
-/// Code, place, may be empty, left-recursive, how many, lowest, free.
-type Report = fn(&[u8]) -> [u64; 7];
+/// What is asked about a table alone, and answered by so many numbers.
+pub type Question<const NUMBERS: usize> = fn(&[u8]) -> [u64; NUMBERS];
 
 pub struct Reader {
     pub name: &'static str,
-    pub check: Check,
-    pub report: Report,
+    /// Code and place.
+    pub check: Question<2>,
+    /// Code, place, may be empty, left-recursive, how many, lowest, free.
+    pub report: Question<7>,
     pub read: Read,
 }
 

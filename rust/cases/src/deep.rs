@@ -136,16 +136,18 @@ fn far_reach(maker: &mut Maker) {
 }
 
 /// A rule that calls itself below a long chain of nodes, rule 0's root or not.
+/// Each repetition is of something that takes a byte.
 fn reach_down_a_chain(maker: &mut Maker) {
     let mut sheet = Sheet::new();
     let nothing = sheet.empty();
+    let a = sheet.byte(b'a');
     let itself = sheet.rule(1);
     let mut top = itself;
     while sheet.nodes.len() < 512 {
         top = match sheet.nodes.len() % 4 {
-            0 => sheet.sequence(nothing, top),
-            1 => sheet.choice(nothing, top),
-            2 => sheet.not(top),
+            0 => sheet.choice(nothing, top),
+            1 => sheet.not(top),
+            2 => sheet.sequence(a, top),
             _ => sheet.repetition(top),
         };
     }

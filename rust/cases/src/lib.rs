@@ -10,6 +10,7 @@ mod deep;
 mod desk;
 mod formed;
 mod maker;
+mod nothing;
 pub mod program;
 mod random;
 mod reach;
@@ -40,6 +41,7 @@ pub fn make(seed: u64) -> Cases {
     damage::add(&mut maker);
     records::add(&mut maker);
     deep::add(&mut maker);
+    nothing::add(&mut maker);
     formed::add(&mut maker);
     // Random sheets fill what is left.
     soup::add(&mut maker, COMMANDS);
@@ -55,6 +57,20 @@ mod tests {
         let (once, again) = (make(SEED), make(SEED));
         assert!(once.stdin == again.stdin && once.stdout == again.stdout);
         assert!(once.stdin != make(SEED + 1).stdin);
+    }
+
+    /// What is made to be read by is not refused for a repetition of nothing.
+    #[test]
+    fn repetitions_of_nothing_are_made_on_purpose() {
+        let loops = |add: fn(&mut Maker)| {
+            let mut maker = Maker::new(SEED);
+            add(&mut maker);
+            maker.finish().tally.codes[independent::LOOP as usize]
+        };
+        for add in [textbook::add, records::add, deep::add, formed::add] {
+            assert_eq!(loops(add), 0);
+        }
+        assert!(loops(nothing::add) > 300);
     }
 
     #[test]

@@ -8,7 +8,8 @@ use cases::{make, Tally, SEED};
 /// Fewer than this of any code are too few to compare by.
 const LEAST_OF_A_CODE: u64 = 50;
 const LEAST_COMMANDS: u64 = 20_000;
-/// Of tables free though a rule is left-recursive, and not free though rule 0 is not.
+/// Of tables free though a rule is left-recursive, and not free though rule 0 is
+/// not; of those refused for a repetition of nothing, and those close to it.
 const LEAST_TABLES: u64 = 200;
 
 fn main() -> ExitCode {
@@ -46,6 +47,11 @@ fn print_counts(tally: &Tally) {
     let [not, is] = tally.well_formed;
     eprintln!("well formed {is}, not well formed {not}");
     let tables = &tally.tables;
+    eprintln!(
+        "tables with a repetition of nothing {}",
+        tables.repeating_nothing
+    );
+    eprintln!("tables close to that and accepted {}", tables.close_to_it);
     eprintln!("tables without a left-recursive rule {}", tables.without);
     eprintln!("tables free though they have one {}", tables.unreached);
     eprintln!("tables whose rule 0 reaches one {}", tables.reached);
@@ -54,8 +60,14 @@ fn print_counts(tally: &Tally) {
 }
 
 fn enough(tally: &Tally) -> bool {
-    let tables = [tally.tables.unreached, tally.tables.reached];
+    let tables = &tally.tables;
+    let sorts = [
+        tables.unreached,
+        tables.reached,
+        tables.repeating_nothing,
+        tables.close_to_it,
+    ];
     tally.commands >= LEAST_COMMANDS
         && tally.codes.iter().all(|&count| count >= LEAST_OF_A_CODE)
-        && tables.iter().all(|&count| count >= LEAST_TABLES)
+        && sorts.iter().all(|&count| count >= LEAST_TABLES)
 }

@@ -29,13 +29,18 @@ pub struct Tally {
     pub codes: [u64; independent::CODES],
     /// Times a stored reading was not and was well formed.
     pub well_formed: [u64; 2],
-    /// Accepted tables that were reported on or read by, each counted once.
+    /// Tables that were reported on or read by, each counted once.
     pub tables: Tables,
 }
 
-/// How many tables there are of each sort.
+/// How many tables there are of each sort. All are accepted but those refused
+/// with LOOP.
 #[derive(Clone, Default)]
 pub struct Tables {
+    /// Refused for a repetition of nothing.
+    pub repeating_nothing: u64,
+    /// A repetition's child is no range, and another node may be empty too.
+    pub close_to_it: u64,
     /// No rule is left-recursive.
     pub without: u64,
     /// Free, though a rule is left-recursive: rule 0 does not reach it.
@@ -47,9 +52,15 @@ pub struct Tables {
 }
 
 impl Tables {
-    fn count(&mut self, report: independent::Report) {
-        if report.code == independent::READ {
-            *self.of(report) += 1;
+    fn count(&mut self, table: &[u8]) {
+        let report = independent::report(table);
+        match report.code {
+            independent::LOOP => self.repeating_nothing += 1,
+            independent::READ => {
+                *self.of(report) += 1;
+                self.close_to_it += u64::from(is_close_to_repeating_nothing(table));
+            }
+            _ => {}
         }
     }
 
@@ -65,6 +76,17 @@ impl Tables {
             &mut self.itself
         }
     }
+}
+
+/// Whether it has to be worked out that no repetition is one of nothing: one has
+/// another child than a range, and another node may be empty by its kind.
+fn is_close_to_repeating_nothing(accepted: &[u8]) -> bool {
+    let rules = usize::from(accepted[5]) * 256 + usize::from(accepted[6]);
+    let nodes: Vec<&[u8]> = accepted[7 + 2 * rules..].chunks(5).collect();
+    let is_range = |high: u8, low: u8| nodes[usize::from(high) * 256 + usize::from(low)][0] == 1;
+    let repeats_more = |node: &&[u8]| node[0] == 6 && !is_range(node[1], node[2]);
+    let empty = nodes.iter().filter(|node| matches!(node[0], 0 | 5 | 6));
+    nodes.iter().any(repeats_more) && empty.count() > 1
 }
 
 /// A reading tried out beforehand, to aim the edges of its commands.
@@ -157,7 +179,7 @@ impl Maker {
     fn count_table(&mut self) {
         let table = self.desk.table();
         if self.counted.insert(table.to_vec()) {
-            self.cases.tally.tables.count(independent::report(table));
+            self.cases.tally.tables.count(table);
         }
     }
 

@@ -215,6 +215,11 @@ mod tests {
         is(&case(Grammar::Folder, b""), "GRAMMAR\n", Ending::Failed);
         let short = case(Grammar::Table(vec![1, 0, 41]), b"1\n");
         is(&short, "SHORT 0 0\n", Ending::Refused);
+        let mut repeating = sheets::sheet_b();
+        let maybe = repeating.optional(0);
+        repeating.repetition(maybe);
+        let repeating = case(Grammar::Table(repeating.bytes()), b"1\n");
+        is(&repeating, "LOOP 8 0\n", Ending::Refused);
         is(&by_b(b""), "", Ending::Done);
         let from_folder = Case {
             input: Input::Folder,

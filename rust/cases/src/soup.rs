@@ -3,6 +3,7 @@
 use sheets::{Node, Sheet};
 
 use crate::maker::{Maker, Trial};
+use crate::nothing::{ask_refused, is_loop, mend, spoilt};
 use crate::reach::{add_edge, add_unused, append, swap_rules, EDGES, FORMS};
 
 /// Makes random sheets with readings until so many commands are made.
@@ -23,6 +24,11 @@ pub fn add(maker: &mut Maker, commands: u64) {
             let line = some_line(maker, &sheet, alphabet);
             maker.line(&line);
             some_readings(maker);
+        }
+        if maker.random.chance(30) {
+            if let Some(refused) = spoilt(maker, &sheet) {
+                ask_refused(maker, &refused);
+            }
         }
     }
 }
@@ -70,10 +76,21 @@ fn behind_a_free_sheet(maker: &mut Maker, alphabet: &[u8], other: &Sheet) -> She
     if maker.random.chance(25) {
         let from = maker.random.below(own) as usize;
         let to = (own + maker.random.below(others)) as u16;
-        let edge = maker.random.pick(&EDGES);
-        add_edge(&mut sheet, from, to, edge);
+        add_some_edge(maker, &mut sheet, from, to);
     }
     sheet
+}
+
+/// Any edge by which the sheet stays an accepted one.
+fn add_some_edge(maker: &mut Maker, sheet: &mut Sheet, from: usize, to: u16) {
+    loop {
+        let mut other = sheet.clone();
+        add_edge(&mut other, from, to, maker.random.pick(&EDGES));
+        if !is_loop(&other) {
+            *sheet = other;
+            return;
+        }
+    }
 }
 
 fn is_free(sheet: &Sheet) -> bool {
@@ -90,9 +107,8 @@ fn some_unused_rules(maker: &mut Maker, sheet: &mut Sheet) {
         let form = maker.random.pick(&FORMS);
         let rule = add_unused(sheet, form);
         if maker.random.chance(25) {
-            let edge = maker.random.pick(&EDGES);
             let from = maker.random.below(rule.into()) as usize;
-            add_edge(sheet, from, rule, edge);
+            add_some_edge(maker, sheet, from, rule);
         }
         // Not always the last rules.
         if rule > 1 && maker.random.chance(50) {
@@ -215,9 +231,16 @@ fn draw(maker: &mut Maker, sheet: &Sheet, node: u16, line: &mut Vec<u8>, steps: 
     }
 }
 
-/// Any accepted table of so many nodes and rules: every node and root is as
-/// likely as the kinds allow.
+/// Any accepted table of so many nodes and rules.
 pub fn soup(maker: &mut Maker, nodes: u64, rules: u64) -> Sheet {
+    let mut sheet = any_soup(maker, nodes, rules);
+    mend(&mut sheet);
+    sheet
+}
+
+/// Any table of so many nodes and rules that is accepted but for repetitions of
+/// nothing: every node and root is as likely as the kinds allow.
+pub fn any_soup(maker: &mut Maker, nodes: u64, rules: u64) -> Sheet {
     let mut sheet = Sheet::new();
     for number in 0..nodes {
         let node = soup_node(maker, number, rules);
@@ -290,6 +313,7 @@ fn grown(maker: &mut Maker, alphabet: &[u8]) -> Sheet {
         };
         sheet.root(root);
     }
+    mend(&mut sheet);
     sheet
 }
 

@@ -241,8 +241,8 @@ fn only_itself() -> Sheet {
     sheet
 }
 
-/// S <- R* 'b'; R <- 'a' / Q; Q <- empty. The repetition ends on a child
-/// that matches nothing and makes trees.
+/// S <- R* 'b'; R <- Q 'a'; Q <- empty. The repetition ends on a child that
+/// makes a tree of nothing before it fails.
 fn repetition_over_trees() -> Sheet {
     let mut sheet = Sheet::new();
     let (r, q) = (sheet.rule(1), sheet.rule(2));
@@ -250,10 +250,10 @@ fn repetition_over_trees() -> Sheet {
     let b = sheet.byte(b'b');
     let root = sheet.sequence(all, b);
     let a = sheet.byte(b'a');
-    let either = sheet.choice(a, q);
+    let one = sheet.sequence(q, a);
     let nothing = sheet.empty();
     sheet.root(root);
-    sheet.root(either);
+    sheet.root(one);
     sheet.root(nothing);
     sheet
 }
@@ -275,13 +275,14 @@ fn nested_repetitions() -> Sheet {
     sheet
 }
 
-/// S <- ((R*)*)* of a child that may match nothing.
-fn repetitions_of_repetitions() -> Sheet {
+/// S <- (R R 'b')*; R <- 'a'*. All but the byte may match nothing, and the byte
+/// is enough for the repetition.
+fn repetition_close_to_nothing() -> Sheet {
     let mut sheet = Sheet::new();
     let r = sheet.rule(1);
-    let once = sheet.repetition(r);
-    let twice = sheet.repetition(once);
-    let root = sheet.repetition(twice);
+    let b = sheet.byte(b'b');
+    let line = sheet.in_order(&[r, r, b]);
+    let root = sheet.repetition(line);
     let a = sheet.byte(b'a');
     let as_many = sheet.repetition(a);
     sheet.root(root);
@@ -519,8 +520,11 @@ fn grammars() -> Vec<Example> {
         example(repetition_over_trees(), &["b", "aab", "", "a", "aaa"]),
         example(not_free(repetition_over_trees()), &["b", "aab", "", "a"]),
         example(nested_repetitions(), &["", "abc", "aabbcabc", "ab", "cc"]),
-        example(repetitions_of_repetitions(), &["", "a", "aaa", "b"]),
-        example(not_free(repetitions_of_repetitions()), &["", "aa"]),
+        example(
+            repetition_close_to_nothing(),
+            &["", "b", "aab", "aabbab", "a", "c"],
+        ),
+        example(not_free(repetition_close_to_nothing()), &["", "aabab"]),
         example(double_not(), &["ab", "b", "a", "", "aab"]),
         example(not_free(double_not()), &["ab", "b", "a"]),
         example(shared_child(), &["aa", "abab", "ba", "bbb", "a"]),

@@ -4,6 +4,7 @@
 //! maps and lists. It shares nothing with the proved reader, so that a slip
 //! in the one is not repeated in the other. Nothing here is meant to be fast.
 
+mod empty;
 mod reading;
 mod report;
 mod searches;
@@ -33,15 +34,17 @@ pub const FAIL: u64 = 13;
 pub const REST: u64 = 14;
 pub const RECORDS: u64 = 15;
 pub const ROOM: u64 = 16;
+/// Given before LINE, though its number is the last.
+pub const LOOP: u64 = 17;
 
 /// How many codes there are; they run from 0 to one below this.
-pub const CODES: usize = 17;
+pub const CODES: usize = 18;
 
 /// The name of a code, `None` for a number that is no code.
 pub fn names(code: u64) -> Option<&'static str> {
     const NAMES: [&str; CODES] = [
         "READ", "SHORT", "VERSION", "COUNT", "LENGTH", "ROOT", "KIND", "FIELD", "LINE", "ALLOW",
-        "WORK", "EFFORT", "DEEP", "FAIL", "REST", "RECORDS", "ROOM",
+        "WORK", "EFFORT", "DEEP", "FAIL", "REST", "RECORDS", "ROOM", "LOOP",
     ];
     let index = usize::try_from(code).ok()?;
     NAMES.get(index).copied()

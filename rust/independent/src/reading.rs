@@ -127,7 +127,7 @@ pub fn searches(table: &[u8], line: &[u8], allowance: u64) -> Option<Searches> {
     Some(reading.searches)
 }
 
-/// Codes 1 to 10 return zeros else.
+/// Codes 1 to 10 and LOOP return zeros else.
 fn refused(code: u64, place: u64) -> Answer {
     Answer {
         code,

@@ -1,6 +1,7 @@
 //! The report on a table: which rules may be empty, which are left-recursive,
 //! and whether the grammar is free.
 
+use crate::empty::nodes_that_may_be_empty;
 use crate::table::{open, Node, Table};
 use crate::READ;
 
@@ -81,30 +82,6 @@ fn report_on(table: &Table) -> Report {
         }
     }
     report
-}
-
-/// The least reading: start from "none" and add nodes until nothing changes.
-fn nodes_that_may_be_empty(table: &Table) -> Vec<bool> {
-    let mut empty = vec![false; table.nodes.len()];
-    loop {
-        let mut changed = false;
-        for (number, node) in table.nodes.iter().enumerate() {
-            let now = match *node {
-                Node::Empty | Node::Not(_) | Node::Repetition(_) => true,
-                Node::Range { .. } => false,
-                Node::Rule(rule) => empty[table.roots[rule]],
-                Node::Sequence(first, second) => empty[first] && empty[second],
-                Node::Choice(first, second) => empty[first] || empty[second],
-            };
-            if now && !empty[number] {
-                empty[number] = true;
-                changed = true;
-            }
-        }
-        if !changed {
-            return empty;
-        }
-    }
 }
 
 /// The nodes this node starts with.

@@ -1,6 +1,7 @@
 //! The table of a sheet: its check and its opened form.
 
-use crate::{Refusal, COUNT, FIELD, KIND, LENGTH, READ, ROOT, SHORT, VERSION};
+use crate::empty::nodes_that_may_be_empty;
+use crate::{Refusal, COUNT, FIELD, KIND, LENGTH, LOOP, READ, ROOT, SHORT, VERSION};
 
 /// One node of a checked table. Children are node numbers, below their
 /// parent's; a rule number is below the rule count.
@@ -31,7 +32,7 @@ pub fn check(table: &[u8]) -> (u64, u64) {
     }
 }
 
-/// Checks the table in the order of the codes and opens it.
+/// Checks the table in the order of the codes, LOOP last, and opens it.
 pub(crate) fn open(table: &[u8]) -> Result<Table, Refusal> {
     if table.len() < 7 {
         return refuse(SHORT, 0);
@@ -73,7 +74,22 @@ pub(crate) fn open(table: &[u8]) -> Result<Table, Refusal> {
             None => return refuse(FIELD, number),
         }
     }
-    Ok(Table { roots, nodes })
+    let table = Table { roots, nodes };
+    match repetition_of_nothing(&table) {
+        Some(number) => refuse(LOOP, number),
+        None => Ok(table),
+    }
+}
+
+/// The first repetition whose child may be empty, whether or not a rule leads
+/// to it.
+fn repetition_of_nothing(table: &Table) -> Option<usize> {
+    let empty = nodes_that_may_be_empty(table);
+    let repeats_nothing = |node: &Node| match *node {
+        Node::Repetition(child) => empty[child],
+        _ => false,
+    };
+    table.nodes.iter().position(repeats_nothing)
 }
 
 /// The node with these fields, `None` if a field is against its kind.

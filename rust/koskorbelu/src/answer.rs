@@ -9,7 +9,7 @@ use crate::reading::Reading;
 /// Why a table is no sheet.
 #[derive(Clone, Copy, Debug, PartialEq, Eq)]
 pub struct Refusal {
-    /// `Short` to `Field`.
+    /// `Short` to `Field`, or `Loop`.
     pub code: Code,
     /// The rule or node, where the code names one, else 0.
     pub place: usize,
@@ -67,7 +67,7 @@ pub enum Answer<Bytes> {
         place: usize,
         /// The match's length with `Rest`, `Records` and `Room`, else 0.
         matched: usize,
-        /// Visits made; 0 up to `Work`.
+        /// Visits made; 0 unless [the line was read](Code::line_was_read).
         visits: u64,
         /// With `Records` 1,001, with `Room` the true number, else 0.
         records: usize,

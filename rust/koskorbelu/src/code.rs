@@ -2,8 +2,10 @@
 
 use std::fmt;
 
-/// Why a call ended as it did. The checks are made in this order, `Read` last.
-#[derive(Clone, Copy, Debug, PartialEq, Eq, Hash, PartialOrd, Ord)]
+/// Why a call ended as it did. The checks are made in the order of the numbers,
+/// but `Loop` after `Field` and before `Line`, and `Read` last. So the numbers
+/// don't tell whether the line was read: [`Code::line_was_read`] does.
+#[derive(Clone, Copy, Debug, PartialEq, Eq, Hash)]
 pub enum Code {
     /// No refusal.
     Read = 0,
@@ -39,11 +41,13 @@ pub enum Code {
     Records = 15,
     /// Room under the stored length. Place: matched.
     Room = 16,
+    /// A repetition's child may be empty. Place: the first such repetition.
+    Loop = 17,
 }
 
 impl Code {
     /// All codes; each stands at its number.
-    pub const ALL: [Code; 17] = [
+    pub const ALL: [Code; 18] = [
         Code::Read,
         Code::Short,
         Code::Version,
@@ -61,6 +65,7 @@ impl Code {
         Code::Rest,
         Code::Records,
         Code::Room,
+        Code::Loop,
     ];
 
     /// The code with this number, `None` for a number that is no code.
@@ -92,6 +97,33 @@ impl Code {
             Code::Rest => "REST",
             Code::Records => "RECORDS",
             Code::Room => "ROOM",
+            Code::Loop => "LOOP",
+        }
+    }
+
+    /// Whether the line was read, to its end or not: `Read`, and `Effort` to
+    /// `Room`. With any other code the call was turned away before that, and
+    /// nothing that was lent is changed.
+    pub fn line_was_read(self) -> bool {
+        match self {
+            Code::Short
+            | Code::Version
+            | Code::Count
+            | Code::Length
+            | Code::Root
+            | Code::Kind
+            | Code::Field
+            | Code::Loop
+            | Code::Line
+            | Code::Allow
+            | Code::Work => false,
+            Code::Effort
+            | Code::Deep
+            | Code::Fail
+            | Code::Rest
+            | Code::Records
+            | Code::Room
+            | Code::Read => true,
         }
     }
 }
@@ -114,7 +146,15 @@ mod tests {
             assert_eq!(code.number(), number);
             assert_eq!(Some(code.name()), independent::names(number));
         }
-        assert_eq!(Code::with_number(17), None);
+        assert_eq!(Code::with_number(18), None);
         assert_eq!(Code::with_number(u64::MAX), None);
+    }
+
+    /// READ and 11 to 16; 17 is turned away as 1 to 10 are.
+    #[test]
+    fn whether_the_line_was_read() {
+        let read = Code::ALL.iter().filter(|code| code.line_was_read());
+        let numbers: Vec<u64> = read.map(|code| code.number()).collect();
+        assert_eq!(numbers, [0, 11, 12, 13, 14, 15, 16]);
     }
 }

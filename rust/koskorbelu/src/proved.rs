@@ -37,10 +37,10 @@ pub fn read_whole(table: &[u8], line: &[u8], allowance: u64) -> Answer<Vec<u8>> 
 
 /// [`read_prefix`] with lent working numbers and room.
 ///
-/// From `Effort` on and with `Read`, the first [`work_needed`] numbers are
-/// zero afterwards. Only `Read` writes the room, at its front. All else is
-/// left as found. With fewer numbers or less room than is needed the answer is
-/// `Work` or `Room`.
+/// Where [the line was read](Code::line_was_read), the first [`work_needed`]
+/// numbers are zero afterwards. Only `Read` writes the room, at its front. All
+/// else is left as found. With fewer numbers or less room than is needed the
+/// answer is `Work` or `Room`.
 pub fn read_prefix_with<'room>(
     table: &[u8],
     line: &[u8],

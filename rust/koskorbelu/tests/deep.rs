@@ -17,7 +17,7 @@ mod proved {
     use std::thread;
 
     use cases::{dear_sums, decode, make, run, Command, Lending, Read, Readers};
-    use koskorbelu::{face, stored_length, Answer, Tree};
+    use koskorbelu::{face, stored_length, Answer, Code, Tree};
     use sheets::{sheet_a, sheet_b, sum};
 
     const SEED: u64 = 1;
@@ -91,6 +91,7 @@ mod proved {
                 numbers(&proved.0, &other.0)
                     .or((proved.1 != other.1).then(|| "working numbers differ".to_string()))
                     .or((proved.2 != other.2).then(|| "rooms differ".to_string()))
+                    .or((!is_left_as_named(&proved, lending)).then(|| "misnamed".to_string()))
             }
             _ => None,
         }
@@ -110,6 +111,13 @@ mod proved {
             lending.whole,
         );
         (numbers, work, room)
+    }
+
+    /// Something is changed exactly if the code says that the line was read.
+    fn is_left_as_named((numbers, work, room): &Left, lending: &Lending) -> bool {
+        let code = Code::with_number(numbers[0]).expect("a named answer");
+        let is_as_found = *work == lending.work() && *room == lending.room();
+        code.line_was_read() != is_as_found
     }
 
     /// Allowances whose working numbers the commands cannot lend.
@@ -237,6 +245,32 @@ mod proved {
         assert!(!report.is_free());
         let free = koskorbelu::report(&sheet_b().bytes()).unwrap();
         assert!(free.is_free() && free.lowest.is_none());
+    }
+
+    /// It is refused before the line, the allowance and what is lent are looked at.
+    #[test]
+    fn a_repetition_of_nothing() {
+        let mut sheet = sheet_b();
+        let maybe = sheet.optional(0);
+        sheet.repetition(maybe);
+        let table = sheet.bytes();
+        assert_eq!(face::check(&table), [17, 8]);
+        assert_eq!(face::report(&table), [17, 8, 0, 0, 0, 64, 0]);
+        let refused = koskorbelu::check(&table).unwrap_err();
+        assert_eq!(refused.to_string(), "LOOP 8");
+        assert_eq!(koskorbelu::report(&table), Err(refused));
+        let answer = koskorbelu::read_whole(&table, b"1,5", 2_500);
+        assert_eq!(
+            (answer.code(), answer.to_string().as_str()),
+            (Code::Loop, "LOOP 8 0")
+        );
+        let (mut work, mut room) = ([7; 100], [7; 10]);
+        for line in [b"1,5".as_slice(), &[b'1'; 256]] {
+            let answer = koskorbelu::read_prefix_with(&table, line, 0, &mut work, &mut room);
+            assert_eq!(answer.to_string(), "LOOP 8 0");
+            assert!(!answer.code().line_was_read());
+            assert_eq!((work, room), ([7; 100], [7; 10]));
+        }
     }
 
     /// A left-recursive rule counts from the moment it is used.

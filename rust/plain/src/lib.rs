@@ -7,6 +7,7 @@
 
 #![forbid(unsafe_code)]
 
+mod empty;
 mod reading;
 mod report;
 mod sheet;
@@ -33,3 +34,4 @@ const FAIL: u64 = 13;
 const REST: u64 = 14;
 const RECORDS: u64 = 15;
 const ROOM: u64 = 16;
+const LOOP: u64 = 17;

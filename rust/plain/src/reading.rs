@@ -101,10 +101,11 @@ pub fn read(
     room: &mut [u8],
     whole: bool,
 ) -> Answer {
-    let sheet = match open(table) {
-        Ok(sheet) => sheet,
+    let opened = match open(table) {
+        Ok(opened) => opened,
         Err((code, place)) => return refused(code, place),
     };
+    let sheet = opened.sheet;
     if line.len() > 255 {
         return refused(LINE, 0);
     }
@@ -136,7 +137,7 @@ pub fn read(
         kept: kept.as_chunks_mut().0,
         refusal: (0, 0),
     };
-    let outcome = if masks(&sheet).free {
+    let outcome = if masks(&opened).free {
         reading.kept.fill([0, 0]);
         reading.use_kept(0, 0, 0)
     } else {

@@ -33,6 +33,8 @@ pub enum Fault {
     },
     /// The kind is above 6, or a field is set that the kind does not have.
     NoNode { node: usize, given: Node },
+    /// A repetition's child may match nothing.
+    RepetitionOfNothing { node: usize, child: u16 },
 }
 
 impl fmt::Display for Fault {
@@ -70,6 +72,12 @@ impl fmt::Display for Fault {
                 highest,
             } => write!(f, "node {node} is no range of bytes: {lowest} to {highest}"),
             Fault::NoNode { node, given } => write!(f, "node {node} is none: {given:?}"),
+            Fault::RepetitionOfNothing { node, child } => {
+                write!(
+                    f,
+                    "node {node} repeats node {child}, which may match nothing"
+                )
+            }
         }
     }
 }
@@ -94,6 +102,17 @@ pub fn fault(sheet: &Sheet) -> Option<Fault> {
     }
     let mut all = sheet.nodes.iter().enumerate();
     all.find_map(|(node, &given)| fault_of_node(node, given, rules))
+        .or_else(|| repetition_of_nothing(sheet))
+}
+
+/// No single node shows this one, so the check itself is asked.
+fn repetition_of_nothing(sheet: &Sheet) -> Option<Fault> {
+    let (code, place) = independent::check(&sheet.bytes());
+    let node = place as usize;
+    (code == independent::LOOP).then(|| Fault::RepetitionOfNothing {
+        node,
+        child: sheet.nodes[node].1,
+    })
 }
 
 fn fault_of_node(node: usize, given: Node, rules: usize) -> Option<Fault> {
@@ -178,5 +197,32 @@ mod tests {
             said(|sheet| sheet.add((5, 0, 1))),
             "node 6 is none: (5, 0, 1)"
         );
+    }
+
+    #[test]
+    fn repetitions() {
+        // ('kW'?)*
+        let optional = |sheet: &mut Sheet| {
+            let word = sheet.word("kW");
+            let maybe = sheet.optional(word);
+            sheet.repetition(maybe)
+        };
+        assert_eq!(
+            said(optional),
+            "node 11 repeats node 10, which may match nothing"
+        );
+        // The digit of rule 1 is made optional, and rule 1 is repeated.
+        let by_a_rule = |sheet: &mut Sheet| {
+            sheet.roots[1] = sheet.optional(5);
+            sheet.repetition(0)
+        };
+        assert_eq!(
+            said(by_a_rule),
+            "node 8 repeats node 0, which may match nothing"
+        );
+        let mut sheet = crate::sheet_b();
+        let word = sheet.word("kW");
+        sheet.repetition(word);
+        assert!(sheet.table().is_ok());
     }
 }

@@ -109,7 +109,8 @@ impl Sheet {
         self.add((5, child, 0))
     }
 
-    /// `child*`: as many as there are, or none.
+    /// `child*`: as many as there are, or none. A child that may match nothing
+    /// is a fault: write `'kW'*`, not `('kW'?)*`.
     pub fn repetition(&mut self, child: u16) -> u16 {
         self.add((6, child, 0))
     }

@@ -63,6 +63,12 @@ slice-aggregate-put-all-9 c = search needs
 put-all-requires-9 : tie.Need-put-all-requires-9
 put-all-requires-9 c κs = search needs
 
+slice-aggregate-put-all-10 : tie.Need-slice-aggregate-put-all-10
+slice-aggregate-put-all-10 c = search needs
+
+put-all-requires-10 : tie.Need-put-all-requires-10
+put-all-requires-10 c κs = search needs
+
 returns : tie.Need-returns
 unfolding nameOf names bytes
 returns c = named 8 (c .before .before .before .match .keys1) (c .put-all .ensures) refl
@@ -100,19 +106,24 @@ unfolding nameOf names bytes
 returns-9 c = named 16 (c .before .before .before .match .keys9) (c .put-all9 .ensures) refl
 
 returns-10 : tie.Need-returns-10
-returns-10 c =
+unfolding nameOf names bytes
+returns-10 c = named 17 (c .before .before .before .match .keys10) (c .put-all10 .ensures) refl
+
+returns-11 : tie.Need-returns-11
+returns-11 c =
     let n = c .match .rest in
     let k = c .before .args .code in
-    let past9 : 9 ≤ k = past k 8 (c .before .pre) (n .0 .0 .0 .0 .0 .0 .0 .0 .1) in
-    let past10 : 10 ≤ k = past k 9 past9 (n .0 .0 .0 .0 .0 .0 .0 .1) in
-    let past11 : 11 ≤ k = past k 10 past10 (n .0 .0 .0 .0 .0 .0 .1) in
-    let past12 : 12 ≤ k = past k 11 past11 (n .0 .0 .0 .0 .0 .1) in
-    let past13 : 13 ≤ k = past k 12 past12 (n .0 .0 .0 .0 .1) in
-    let past14 : 14 ≤ k = past k 13 past13 (n .0 .0 .0 .1) in
-    let past15 : 15 ≤ k = past k 14 past14 (n .0 .0 .1) in
-    let past16 : 16 ≤ k = past k 15 past15 (n .0 .1) in
-    let past17 : 17 ≤ k = past k 16 past16 (n .1) in
-    unnamed k past17 (puts-none _ _)
+    let past9 : 9 ≤ k = past k 8 (c .before .pre) (n .0 .0 .0 .0 .0 .0 .0 .0 .0 .1) in
+    let past10 : 10 ≤ k = past k 9 past9 (n .0 .0 .0 .0 .0 .0 .0 .0 .1) in
+    let past11 : 11 ≤ k = past k 10 past10 (n .0 .0 .0 .0 .0 .0 .0 .1) in
+    let past12 : 12 ≤ k = past k 11 past11 (n .0 .0 .0 .0 .0 .0 .1) in
+    let past13 : 13 ≤ k = past k 12 past12 (n .0 .0 .0 .0 .0 .1) in
+    let past14 : 14 ≤ k = past k 13 past13 (n .0 .0 .0 .0 .1) in
+    let past15 : 15 ≤ k = past k 14 past14 (n .0 .0 .0 .1) in
+    let past16 : 16 ≤ k = past k 15 past15 (n .0 .0 .1) in
+    let past17 : 17 ≤ k = past k 16 past16 (n .0 .1) in
+    let past18 : 18 ≤ k = past k 17 past17 (n .1) in
+    unnamed k past18 (puts-none _ _)
 
 pub put-later-name-spec : {M : Type 1} → statement M
 put-later-name-spec =
@@ -136,6 +147,8 @@ put-later-name-spec =
     put-all-requires-8
     slice-aggregate-put-all-9
     put-all-requires-9
+    slice-aggregate-put-all-10
+    put-all-requires-10
     returns
     returns-2
     returns-3
@@ -145,4 +158,5 @@ put-later-name-spec =
     returns-7
     returns-8
     returns-9
-    returns-10)
+    returns-10
+    returns-11)

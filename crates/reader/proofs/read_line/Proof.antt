@@ -5,13 +5,16 @@ use borrow.Author.Needs.{needs}
 use native.Mathlib.Omega.{arith}
 use mathlib.Core.Path.{_∙_}
 use Prim.Native.Nat.{_+_, _*_, _≤_}
-use Rattle.sheet.specs.Table.{grammarOf}
+use Rattle.layout.specs.Table.{grammarOf}
+use Rattle.sheet.proofs.Accepting.{laid}
 use Rattle.meaning.specs.Reading.{read}
 use Rattle.reader.specs.Answer.{cleared}
 use Rattle.reader.proofs.Turning.{past-ready, startable, as-cleared, from-in}
 
 is-free-requires : tie.Need-is-free-requires
-is-free-requires c κs = search needs
+is-free-requires c κs =
+    let p = c .before .before .before .before .before .pre in
+    (laid _ (p .0 .accepted), p .2, omega (arith, p .0 .room))
 
 mul-kept-from : tie.Need-mul-kept-from
 mul-kept-from c = search needs

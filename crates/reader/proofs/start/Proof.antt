@@ -1,12 +1,13 @@
 -- The use of rule 0 starts with nothing live and nothing kept; what comes back is the whole of the working numbers that were lent.
 use borrow.Author.Needs.{needs}
 use mathlib.Core.Path.{sym}
+use Rattle.sheet.proofs.Accepting.{laid}
 use Rattle.reader.proofs.Starting.{some-rule, ready, tells, visiting}
 use Rattle.reader.proofs.start.Statement.{statement}
 use Rattle.reader.proofs.start.Tie as tie
 
 first-node-requires : tie.Need-first-node-requires
-first-node-requires c κs = search needs
+first-node-requires c κs = laid _ (c .before .before .before .pre .fitting .accepted)
 
 cast-first : tie.Need-cast-first
 cast-first c = search needs

@@ -5,9 +5,10 @@ use Prim.Native.Nat.{ℕ, _<_}
 use native.Mathlib.Omega.{arith}
 use lib.ListN.{length}
 use Rattle.bits.specs.Mask.{has}
-use Rattle.sheet.specs.Table.{grammarOf}
-use Rattle.sheet.proofs.Accepting.{rule-count, well-formed, closed}
+use Rattle.layout.specs.Table.{grammarOf}
+use Rattle.layout.proofs.Laying.{rule-count, well-laid, closed}
 use Rattle.report.specs.Pass.{inSet}
+use Rattle.report.proofs.Passes.{empties-said}
 use Rattle.report.proofs.Recursion.{left-found, start-found}
 use borrow.Author.Needs.{needs}
 use Rattle.report.proofs.chains.Statement.{statement}
@@ -37,12 +38,12 @@ returns c =
     let t = now (s .args .table) in
     let to = c .before .before .before .before .before .steps in
     let r : c .before .before .before .before .before .before .before .rule-count .result ≡ length (grammarOf t .roots) = omega (arith, rule-count t) in
-    let some : 0 < length (grammarOf t .roots) = omega (arith, rule-count t, well-formed t (s .pre .0) .some-rule) in
+    let some : 0 < length (grammarOf t .roots) = omega (arith, rule-count t, well-laid t (s .pre .0) .some-rule) in
     let back = c .before .led-back in
     let first = c .add-rule in (
-      left-found (grammarOf t) (closed t (s .pre .0)) (omega arith) _ (s .pre .2) (inSet (to .last .1 .1 .0)) (λ a b h. ap (λ x. has x b) (to .ensures .1 a h)) _
+      left-found (grammarOf t) (closed t (s .pre .0)) (omega arith) _ (empties-said t (s .pre .0)) _ (s .pre .2) (inSet (to .last .1 .1 .0)) (λ a b h. ap (λ x. has x b) (to .ensures .1 a h)) _
           (rw r at (c .before .before .before .close .ensures)) _ (back .ok) (rw r at (back .ensures)),
-      start-found (grammarOf t) (closed t (s .pre .0)) (omega arith) _ (s .pre .2) (inSet (to .last .1 .1 .0)) (λ a b h. ap (λ x. has x b) (to .ensures .1 a h)) _
+      start-found (grammarOf t) (closed t (s .pre .0)) (omega arith) _ (empties-said t (s .pre .0)) _ (s .pre .2) (inSet (to .last .1 .1 .0)) (λ a b h. ap (λ x. has x b) (to .ensures .1 a h)) _
           (rw r at (c .before .before .before .close .ensures)) some _ (first .ok) (first .ensures .bits),
     )
 

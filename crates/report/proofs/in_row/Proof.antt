@@ -5,7 +5,7 @@ use Rattle.report.proofs.in_row.Tie as tie
 
 returns : tie.Need-returns
 unfolding inRow
-returns c = rw (c .before .before .if1 .taken)
+returns c = rw (c .if1 .taken)
 
 returns-2 : tie.Need-returns-2
 unfolding inRow

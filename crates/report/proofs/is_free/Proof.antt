@@ -2,7 +2,7 @@
 use denote.Ref.{now}
 use native.Mathlib.Omega.{arith}
 use borrow.Author.Needs.{needs}
-use Rattle.report.proofs.Repeat.{used}
+use Rattle.report.proofs.Passes.{used}
 use Rattle.report.proofs.is_free.Statement.{statement}
 use Rattle.report.proofs.is_free.Tie as tie
 
@@ -13,7 +13,7 @@ none-reached-requires : tie.Need-none-reached-requires
 none-reached-requires c κs =
     let p = c .before .before .before .before .before .before .before .pre in
     let m = c .before .before .before .masks in
-    (p .0, omega (arith, m .kept .1 .0), m .ensures .1, m .ensures .2)
+    (p .0, omega (arith, m .kept .1 .0, p .2), m .ensures .0, m .ensures .1)
 
 same-length : tie.Need-same-length
 same-length c = search needs
@@ -23,7 +23,7 @@ returns c =
     let s = c .before .before .before .before .before .before .before .before .before .before in
     let m = c .before .before .before .before .before .before .masks .ensures in
     let j = c .before .before .none-reached .ensures in
-    record { free = j .free; used = used _ (s .pre .0) (now (s .args .scratch)) _ (s .pre .1) _ (m .3) _ j (m .0) }
+    record { free = j .free; used = used _ (s .pre .0) (now (s .args .scratch)) (s .pre .2) _ (m .2) _ j }
 
 pub is-free-spec : {M : Type 1} → statement M
 is-free-spec = tie.close (tie.spec masks-requires none-reached-requires same-length returns)

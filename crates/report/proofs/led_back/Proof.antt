@@ -3,8 +3,9 @@ use mathlib.Core.Path.{_≡_, sym, _∙_}
 use mathlib.Core.Logic.{⊎-elim}
 use Prim.Native.Nat.{_-_, _≤_}
 use native.Mathlib.Omega.{arith}
-use Rattle.report.specs.Pass.{Gathered, inSet}
-use Rattle.report.proofs.Sets.{gathered-none, gathered-in, gathered-out}
+use Rattle.empties.specs.Pass.{Gathered}
+use Rattle.report.specs.Pass.{inSet}
+use Rattle.empties.proofs.Gathering.{gathered-none, gathered-in, gathered-out}
 use Rattle.report.proofs.led_back.Statement.{statement}
 use Rattle.report.proofs.led_back.Tie as tie
 

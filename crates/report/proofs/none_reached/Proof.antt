@@ -5,9 +5,10 @@ use mathlib.Core.Bool.{true, false, false≢true}
 use native.Mathlib.Omega.{arith}
 use borrow.Author.Needs.{needs}
 use borrow.Author.Tests.{not-true, not-false}
-use Rattle.sheet.specs.Table.{grammarOf}
-use Rattle.sheet.proofs.Accepting.{closed}
-use Rattle.report.proofs.Repeat.{uses-settled}
+use Rattle.layout.specs.Table.{grammarOf}
+use Rattle.layout.proofs.Laying.{closed}
+use Rattle.report.proofs.Passes.{settled}
+use Rattle.report.specs.Pass.{everyNode}
 use Rattle.report.proofs.Freely.{by-reached, told-none, free-none, told-one, free-one, untold}
 use Rattle.report.proofs.none_reached.Statement.{statement}
 use Rattle.report.proofs.none_reached.Tie as tie
@@ -43,7 +44,7 @@ reachable-rules-requires : tie.Need-reachable-rules-requires
 reachable-rules-requires c κs =
     let s = c .before .before .before .before .before .before .before .before .before .before in
     let u = c .before .before .before .pass-uses in
-    (s .pre .0, omega (arith, u .kept .1 .0), uses-settled _ (s .pre .0) (now (s .args .scratch)) (s .pre .1) _ (u .ensures), s .pre .3)
+    (s .pre .0, omega (arith, u .kept .1 .0), settled _ (s .pre .0) everyNode (now (s .args .scratch)) (s .pre .1) _ (u .ensures), s .pre .3)
 
 apart-requires-2 : tie.Need-apart-requires-2
 apart-requires-2 c κs = search needs

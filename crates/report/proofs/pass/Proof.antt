@@ -1,34 +1,42 @@
--- A pass writes node after node what is known of it.
+-- A pass writes node after node what is found of it.
 use denote.Ref.{now}
 use mathlib.Core.Path.{_≡_, refl, _∙_}
 use Prim.Native.Nat.{_-_, _≤_}
 use native.Mathlib.Omega.{arith}
 use borrow.Author.Needs.{needs}
 use lib.ListN.{length}
-use Rattle.sheet.specs.Table.{nodesOf, grammarOf}
-use Rattle.report.specs.Pass.{factsOf, passed}
+use Rattle.bits.specs.Marks.{marked}
+use Rattle.layout.specs.Table.{nodesOf, grammarOf}
+use Rattle.report.specs.Pass.{passed}
 use Rattle.report.proofs.Words.{passed-next}
 use Rattle.report.proofs.pass.Statement.{statement}
 use Rattle.report.proofs.pass.Tie as tie
 
 abbrev Inv-loop : tie.InvT-loop
-Inv-loop table scratch₀ known n i₀ scratch i = (i ≤ n) × (length scratch ≡ length scratch₀) × (scratch ≡ passed (grammarOf table) (λ f. factsOf f known) scratch₀ i)
+Inv-loop table scratch₀ marks n first i₀ scratch i = (i ≤ n) × (length scratch ≡ length scratch₀) × (scratch ≡ passed (grammarOf table) (marked marks) scratch₀ i)
 
 abbrev μ-loop : tie.MeasureT-loop
-μ-loop table scratch₀ known n i₀ scratch i = n - i
+μ-loop table scratch₀ marks n first i₀ scratch i = n - i
 
 node-count-requires : tie.Need-node-count-requires Inv-loop μ-loop
 node-count-requires c κs = search needs
+
+first-node-requires : tie.Need-first-node-requires Inv-loop μ-loop
+first-node-requires c κs = search needs
 
 loop-holds : tie.Need-loop-holds Inv-loop μ-loop
 unfolding passed
 loop-holds c = (omega arith, refl, refl)
 
 of-node-requires : tie.Need-of-node-requires Inv-loop μ-loop
-of-node-requires c κs = (c .before .before .before .before .before .before .pre .0, omega arith, omega arith)
+of-node-requires c κs =
+    let s = c .before .before .before .before .before .before .before in
+    ((s .pre .0, (omega (arith, c .before .before .before .before .node-count .ensures .0), c .before .before .before .first-node .ensures .0)), omega (arith, s .pre .1, c .before .before .loop .inv .1))
 
 put-requires : tie.Need-put-requires Inv-loop μ-loop
-put-requires c κs = omega arith
+put-requires c κs =
+    let s = c .before .before .before .before .before .before .before .before .before in
+    omega (arith, s .pre .1, c .before .before .before .before .loop .inv .1, c .before .before .before .before .before .before .node-count .ensures .2)
 
 add-i : tie.Need-add-i Inv-loop μ-loop
 add-i c = omega arith
@@ -48,7 +56,7 @@ same-length c = c .before .loop .inv .1
 
 returns : tie.Need-returns Inv-loop μ-loop
 returns c =
-    let e : c .before .loop .i ≡ nodesOf (now (c .before .before .before .before .before .args .table)) = omega arith in
+    let e : c .before .loop .i ≡ nodesOf (now (c .before .before .before .before .before .before .args .table)) = omega (arith, c .before .before .before .node-count .ensures .0) in
     rw (← e) (c .before .loop .inv .2)
 
 pub pass-spec : {M : Type 1} → statement M
@@ -58,6 +66,7 @@ pass-spec =
     Inv-loop
     μ-loop
     node-count-requires
+    first-node-requires
     loop-holds
     of-node-requires
     put-requires

@@ -1,7 +1,7 @@
--- What is put down are the two halves and the flag.
+-- What is put down are the two halves.
 use mathlib.Core.List.{[], _∷_}
-use native.Mathlib.Omega.{arith}
 use lib.ListN.{length-set}
+use native.Mathlib.Omega.{arith}
 use Rattle.meaning.proofs.Sets.{one-by-one}
 use Rattle.report.specs.Pass.{put}
 use borrow.Author.Needs.{needs}
@@ -30,19 +30,7 @@ mul-scratch-2 : tie.Need-mul-scratch-2
 mul-scratch-2 c = search needs
 
 slice-write-scratch-2 : tie.Need-slice-write-scratch-2
-slice-write-scratch-2 c = simp length-set (omega arith)
-
-flag-requires : tie.Need-flag-requires
-flag-requires c κs = search needs
-
-add-scratch-2 : tie.Need-add-scratch-2
-add-scratch-2 c = search needs
-
-mul-scratch-3 : tie.Need-mul-scratch-3
-mul-scratch-3 c = search needs
-
-slice-write-scratch-3 : tie.Need-slice-write-scratch-3
-slice-write-scratch-3 c = search needs
+slice-write-scratch-2 c = search needs
 
 same-length : tie.Need-same-length
 same-length c = search needs
@@ -50,8 +38,8 @@ same-length c = search needs
 returns : tie.Need-returns
 unfolding put
 returns c =
-    let start = c .before .before .before .before in
-    rw (c .before .before .low-half .ensures, c .before .high-half .ensures, c .flag .ensures) (one-by-one (start .args .scratch .now) _ _ (_ ∷ _ ∷ []))
+    let start = c .before .before .before in
+    rw (c .before .low-half .ensures, c .high-half .ensures) (one-by-one (start .args .scratch .now) _ _ (_ ∷ []))
 
 pub put-spec : {M : Type 1} → statement M
 put-spec =
@@ -65,9 +53,5 @@ put-spec =
     add-scratch
     mul-scratch-2
     slice-write-scratch-2
-    flag-requires
-    add-scratch-2
-    mul-scratch-3
-    slice-write-scratch-3
     same-length
     returns)

@@ -4,8 +4,8 @@ use Prim.Native.Nat.{_-_, _^_, _≤_}
 use native.Mathlib.Omega.{arith}
 use borrow.Author.Needs.{needs}
 use lib.ListN.{length}
-use Rattle.sheet.specs.Table.{grammarOf}
-use Rattle.sheet.proofs.Accepting.{well-formed, rule-count, closed}
+use Rattle.layout.specs.Table.{grammarOf}
+use Rattle.layout.proofs.Laying.{well-laid, rule-count, closed}
 use Rattle.report.proofs.Sets.{grown}
 use Rattle.report.proofs.Reaching.{Begun, begun, again, all-reached}
 use Rattle.report.proofs.reachable_rules.Statement.{statement}
@@ -21,7 +21,7 @@ loop-holds : tie.Need-loop-holds Inv-loop μ-loop
 loop-holds c =
     let s = c .before .before in
     let t = now (s .args .table) in
-    begun (grammarOf t) _ (omega (arith, rule-count t, well-formed t (s .pre .0) .some-rule)) (s .pre .3)
+    begun (grammarOf t) _ (omega (arith, rule-count t, well-laid t (s .pre .0) .some-rule)) (s .pre .3)
 
 round-requires : tie.Need-round-requires Inv-loop μ-loop
 round-requires c κs = search needs
@@ -37,14 +37,14 @@ loop-again c =
     let s = c .before .before .before .before .before in
     let t = now (s .args .table) in
     let more = c .before .round in
-    again (grammarOf t) (closed t (s .pre .0)) (omega (arith, rule-count t, well-formed t (s .pre .0) .few-rules)) _ (s .pre .2) _ _ (c .before .before .loop .inv) (more .ensures) (more .ok)
+    again (grammarOf t) (closed t (s .pre .0)) (omega (arith, rule-count t, well-laid t (s .pre .0) .few-rules)) _ (s .pre .2) _ _ (c .before .before .loop .inv) (more .ensures) (more .ok)
 
 returns : tie.Need-returns Inv-loop μ-loop
 returns c =
     let s = c .before .before .before .before .before in
     let t = now (s .args .table) in
     let more = c .before .round in
-    all-reached (grammarOf t) (closed t (s .pre .0)) (omega (arith, rule-count t, well-formed t (s .pre .0) .few-rules)) _ (s .pre .2) _ _ (c .before .before .loop .inv) (more .ensures) (c .if1 .taken)
+    all-reached (grammarOf t) (closed t (s .pre .0)) (omega (arith, rule-count t, well-laid t (s .pre .0) .few-rules)) _ (s .pre .2) _ _ (c .before .before .loop .inv) (more .ensures) (c .if1 .taken)
 
 pub reachable-rules-spec : {M : Type 1} → statement M
 reachable-rules-spec =

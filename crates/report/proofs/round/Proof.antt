@@ -6,17 +6,16 @@ use native.Mathlib.Numerals.{add-one}
 use native.Mathlib.Omega.{arith}
 use borrow.Author.Needs.{needs}
 use lib.ListN.{length}
-use Rattle.sheet.specs.Table.{grammarOf}
-use Rattle.sheet.proofs.Accepting.{well-formed, rule-count}
-use Rattle.report.specs.declared.Facts.{Facts}
-use Rattle.report.specs.Pass.{rootFacts, widened, spread}
-use Rattle.report.proofs.Tables.{root-facts}
+use Rattle.layout.specs.Table.{grammarOf}
+use Rattle.layout.proofs.Laying.{well-laid, rule-count}
+use Rattle.report.specs.Pass.{rootStarts, widened, spread}
+use Rattle.report.proofs.Tables.{root-starts}
 use Rattle.report.proofs.Sets.{spread-next}
 use Rattle.report.proofs.round.Statement.{statement}
 use Rattle.report.proofs.round.Tie as tie
 
 abbrev Inv-loop : tie.InvT-loop
-Inv-loop table scratch reached r more₀ a₀ more a = (a ≤ r) × (more ≡ spread (λ b. rootFacts table scratch b .starts) reached a)
+Inv-loop table scratch reached r more₀ a₀ more a = (a ≤ r) × (more ≡ spread (rootStarts table scratch) reached a)
 
 abbrev μ-loop : tie.MeasureT-loop
 μ-loop table scratch reached r more₀ a₀ more a = r - a
@@ -31,8 +30,8 @@ loop-holds c = (omega arith, refl)
 root-requires : tie.Need-root-requires Inv-loop μ-loop
 root-requires c κs = search needs
 
-facts-at-requires : tie.Need-facts-at-requires Inv-loop μ-loop
-facts-at-requires c κs = omega (arith, well-formed _ (c .before .before .before .before .before .before .pre .0))
+starts-at-requires : tie.Need-starts-at-requires Inv-loop μ-loop
+starts-at-requires c κs = omega (arith, well-laid _ (c .before .before .before .before .before .before .pre .0))
 
 widened-requires : tie.Need-widened-requires Inv-loop μ-loop
 widened-requires c κs = omega arith
@@ -46,8 +45,8 @@ loop-less c = omega arith
 loop-again : tie.Need-loop-again Inv-loop μ-loop
 loop-again c =
     let l = c .before .before .before .before .loop in
-    let found = ap (λ (x : Facts). x .starts) (root-facts _ _ (l .a) _ _ (omega arith) (c .before .before .root .ensures .0) (c .before .facts-at .ensures)) in
-    (omega arith, spread-next (λ b. rootFacts _ _ b .starts) _ (l .a) (l .more) _ _ (l .inv .1) found (c .widened .ensures))
+    let found = root-starts _ _ (l .a) _ _ (omega arith) (c .before .before .root .ensures .0) (c .before .starts-at .ensures) in
+    (omega arith, spread-next (rootStarts _ _) _ (l .a) (l .more) _ _ (l .inv .1) found (c .widened .ensures))
 
 returns : tie.Need-returns Inv-loop μ-loop
 returns c =
@@ -64,7 +63,7 @@ round-spec =
     rule-count-requires
     loop-holds
     root-requires
-    facts-at-requires
+    starts-at-requires
     widened-requires
     add-a
     loop-less

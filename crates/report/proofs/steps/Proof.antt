@@ -5,16 +5,15 @@ use Prim.Native.Nat.{ℕ, _-_, _≤_, _<_}
 use native.Mathlib.Omega.{arith}
 use borrow.Author.Needs.{needs}
 use lib.ListN.{length, getD, length-set}
-use Rattle.sheet.proofs.Accepting.{well-formed, rule-count}
-use Rattle.report.specs.declared.Facts.{Facts}
-use Rattle.report.specs.Pass.{rootFacts}
-use Rattle.report.proofs.Tables.{root-facts}
+use Rattle.layout.proofs.Laying.{well-laid, rule-count}
+use Rattle.report.specs.Pass.{rootStarts}
+use Rattle.report.proofs.Tables.{root-starts}
 use Rattle.report.proofs.Sets.{filled-next}
 use Rattle.report.proofs.steps.Statement.{statement}
 use Rattle.report.proofs.steps.Tie as tie
 
 abbrev Inv-loop : tie.InvT-loop
-Inv-loop table scratch to₀ r a₀ to a = (a ≤ r) × (length to ≡ 64) × ((j : ℕ) → j < a → getD to j 0 ≡ rootFacts table scratch j .starts)
+Inv-loop table scratch to₀ r a₀ to a = (a ≤ r) × (length to ≡ 64) × ((j : ℕ) → j < a → getD to j 0 ≡ rootStarts table scratch j)
 
 abbrev μ-loop : tie.MeasureT-loop
 μ-loop table scratch to₀ r a₀ to a = r - a
@@ -28,8 +27,8 @@ loop-holds c = (omega arith, c .before .before .before .pre .2, λ j h. absurd (
 root-requires : tie.Need-root-requires Inv-loop μ-loop
 root-requires c κs = search needs
 
-facts-at-requires : tie.Need-facts-at-requires Inv-loop μ-loop
-facts-at-requires c κs = omega (arith, well-formed _ (c .before .before .before .before .before .before .pre .0))
+starts-at-requires : tie.Need-starts-at-requires Inv-loop μ-loop
+starts-at-requires c κs = omega (arith, well-laid _ (c .before .before .before .before .before .before .pre .0))
 
 mul-to : tie.Need-mul-to Inv-loop μ-loop
 mul-to c = omega arith
@@ -47,10 +46,10 @@ loop-again : tie.Need-loop-again Inv-loop μ-loop
 loop-again c =
     let l = c .before .before .before .loop in
     let inv = l .inv in
-    let found = ap (λ (x : Facts). x .starts) (root-facts _ _ (l .a) _ _ (omega arith) (c .before .root .ensures .0) (c .facts-at .ensures)) in (
+    let found = root-starts _ _ (l .a) _ _ (omega arith) (c .before .root .ensures .0) (c .starts-at .ensures) in (
       omega arith,
       simp length-set (inv .1),
-      filled-next (λ j. rootFacts _ _ j .starts) (l .to) (l .a) _ (omega arith) (inv .2) found,
+      filled-next (rootStarts _ _) (l .to) (l .a) _ (omega arith) (inv .2) found,
     )
 
 returns : tie.Need-returns Inv-loop μ-loop
@@ -65,7 +64,7 @@ steps-spec =
     rule-count-requires
     loop-holds
     root-requires
-    facts-at-requires
+    starts-at-requires
     mul-to
     element-write-to
     add-a

@@ -1,7 +1,7 @@
 -- `a_of` meets its contract.
 use native.Mathlib.Omega.{arith}
 use borrow.Author.Needs.{needs}
-use Rattle.sheet.proofs.Accepting.{well-formed}
+use Rattle.layout.proofs.Laying.{well-laid}
 use Rattle.visits.proofs.a_of.Statement.{statement}
 use Rattle.visits.proofs.a_of.Tie as tie
 
@@ -11,7 +11,7 @@ element-copy-out-field-a-from c = search needs
 cast-field-a-from : tie.Need-cast-field-a-from
 cast-field-a-from c =
     let s = c .before .before in
-    omega (arith, s .pre .1 .1, well-formed _ (s .pre .0) .few-rules)
+    omega (arith, s .pre .1 .1, well-laid _ (s .pre .0) .few-rules)
 
 field-a-from-requires : tie.Need-field-a-from-requires
 field-a-from-requires c κs = search needs

@@ -1,7 +1,7 @@
 -- `b_of` meets its contract.
 use native.Mathlib.Omega.{arith}
 use borrow.Author.Needs.{needs}
-use Rattle.sheet.proofs.Accepting.{well-formed}
+use Rattle.layout.proofs.Laying.{well-laid}
 use Rattle.visits.proofs.b_of.Statement.{statement}
 use Rattle.visits.proofs.b_of.Tie as tie
 
@@ -11,7 +11,7 @@ element-copy-out-field-b-from c = search needs
 cast-field-b-from : tie.Need-cast-field-b-from
 cast-field-b-from c =
     let s = c .before .before in
-    omega (arith, s .pre .1 .1, well-formed _ (s .pre .0) .few-rules)
+    omega (arith, s .pre .1 .1, well-laid _ (s .pre .0) .few-rules)
 
 field-b-from-requires : tie.Need-field-b-from-requires
 field-b-from-requires c κs = search needs

@@ -1,7 +1,7 @@
 -- `kind_of` meets its contract.
 use native.Mathlib.Omega.{arith}
 use borrow.Author.Needs.{needs}
-use Rattle.sheet.proofs.Accepting.{well-formed}
+use Rattle.layout.proofs.Laying.{well-laid}
 use Rattle.visits.proofs.kind_of.Statement.{statement}
 use Rattle.visits.proofs.kind_of.Tie as tie
 
@@ -11,7 +11,7 @@ element-copy-out-kind-from c = search needs
 cast-kind-from : tie.Need-cast-kind-from
 cast-kind-from c =
     let s = c .before .before in
-    omega (arith, s .pre .1 .1, well-formed _ (s .pre .0) .few-rules)
+    omega (arith, s .pre .1 .1, well-laid _ (s .pre .0) .few-rules)
 
 kind-from-requires : tie.Need-kind-from-requires
 kind-from-requires c κs = search needs

@@ -3,13 +3,13 @@ use borrow.Author.Needs.{needs}
 use Rattle.visits.proofs.root_of.Statement.{statement}
 use Rattle.visits.proofs.root_of.Tie as tie
 use native.Mathlib.Omega.{arith}
-use Rattle.sheet.proofs.Accepting.{well-formed}
+use Rattle.layout.proofs.Laying.{well-laid}
 
 root-requires : tie.Need-root-requires
 root-requires c κs = search needs
 
 cast-result : tie.Need-cast-result
-cast-result c = omega (arith, c .root .ensures .1, well-formed _ (c .before .before .pre .0) .few-nodes)
+cast-result c = omega (arith, c .root .ensures .1, well-laid _ (c .before .before .pre .0) .few-nodes)
 
 returns : tie.Need-returns
 returns c = search needs

@@ -5,6 +5,7 @@ use sheets::{sheet_a, sheet_b, Sheet};
 use super::{Case, Grammar, Input};
 use crate::deep::{padded, right_recursive};
 use crate::maker::Maker;
+use crate::nothing::{repeated, Leaf, Place, PLACES, WAYS};
 use crate::reach::not_free;
 use crate::records::{exactly, four_a_byte};
 use crate::soup::drawn_line;
@@ -111,6 +112,7 @@ fn refused_tables(cases: &mut Cases) {
         wrong_nodes(cases, letter, &sheet);
     }
     wrong_at_the_end(cases);
+    repetitions_of_nothing(cases);
 }
 
 fn wrong_counts(cases: &mut Cases, letter: &str, table: &[u8]) {
@@ -178,6 +180,29 @@ fn wrong_at_the_end(cases: &mut Cases) {
     cases.refused("full, root 512 of rule 63", &other.bytes());
 }
 
+/// Refused, and the near twins of some of them read by.
+fn repetitions_of_nothing(cases: &mut Cases) {
+    for way in WAYS {
+        for place in PLACES {
+            let refused = repeated(place, way, Leaf::Empty);
+            let name = format!("{way:?} of nothing repeated, {place:?}");
+            cases.refused(&name, &refused.bytes());
+        }
+        let close = repeated(Place::Root, way, Leaf::NotThenByte);
+        let lines = [b"".as_slice(), b"a", b"aa", b"caac", b"b"];
+        cases.read(
+            &format!("{way:?} of a byte repeated"),
+            &close,
+            &lines.map(<[u8]>::to_vec),
+        );
+    }
+    let mut last = full();
+    last.nodes[511] = (6, 510, 0);
+    cases.refused("full, nothing repeated by node 511", &last.bytes());
+    last.nodes[511] = (6, 511, 0);
+    cases.refused("full, node 511 repeated by itself", &last.bytes());
+}
+
 /// Longer than any table, behind a good beginning and a bad one.
 fn files_too_long(cases: &mut Cases) {
     let full = full();
@@ -233,7 +258,7 @@ fn in_visits(sheet: &mut Sheet, visits: u64) -> u16 {
         0 | 1 => sheet.empty(),
         even if even % 2 == 0 => {
             let child = in_visits(sheet, even - 1);
-            sheet.repetition(child)
+            sheet.choice(child, child)
         }
         odd => {
             let half = in_visits(sheet, odd / 2);
@@ -480,7 +505,7 @@ mod tests {
     fn places() {
         let all: String = all().iter().map(printed).collect();
         for name in [
-            "ROOT", "KIND", "FIELD", "EFFORT", "DEEP", "REST", "RECORDS", "READ",
+            "ROOT", "KIND", "FIELD", "LOOP", "EFFORT", "DEEP", "REST", "RECORDS", "READ",
         ] {
             let mut places: Vec<&str> = all
                 .lines()

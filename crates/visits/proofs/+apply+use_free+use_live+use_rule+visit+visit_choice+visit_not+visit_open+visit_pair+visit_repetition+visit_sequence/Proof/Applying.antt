@@ -24,7 +24,7 @@ use Rattle.visits.specs.Says.{applies, Ends}
 use Rattle.visits.proofs.Steps.{came-at}
 use Rattle.visits.proofs.Ready.{node-known, ready-at, root-in}
 use Rattle.visits.proofs.ByKind.{apply-rule, apply-not, apply-repetition, apply-empty, apply-above, apply-range, uses-free, rule-used, not-child, repetition-child, keeps-yes, keeps-no, above-six}
-use Rattle.sheet.proofs.Accepting.{well-formed}
+use Rattle.layout.proofs.Laying.{well-laid}
 use Rattle.visits.proofs.Opening.{roomy, open-applied, plain-opens}
 use Rattle.visits.proofs.+apply+use_free+use_live+use_rule+visit+visit_choice+visit_not+visit_open+visit_pair+visit_repetition+visit_sequence.Proof.Ranks.{apply-at, use-free-below, visit-not-below, visit-pair-below, visit-repetition-below}
 
@@ -157,7 +157,7 @@ apply-use-free-requires t c κs =
     let kind = sym (at-kind-of .ensures .0) ∙ at-match .keys3 in
     let r = rule-used _ _ fit (at-start .args .node) (ready .node-in) kind in
     let la : at-a-of .result < rulesIn (lent (at-start .args .table .now .now) (at-start .args .given .now)) = omega arith in
-    let few-rules = well-formed _ (fit .accepted) .few-rules in
+    let few-rules = well-laid _ (fit .laid) .few-rules in
     (omega (arith, at-start .pre .0), (ready-at _ ready (root-in _ _ fit _ la), (at-start .pre .1 .1 .0, (omega arith, la))))
 
 apply-visit-pair-requires : (t : ℕ) → apply-lts.Need-visit-pair-requires (apply-claims t) (apply-at t) apply.Post

@@ -30,7 +30,7 @@ use-free-pos-of-requires t c κs = tt
 use-free-root-of-requires : (t : ℕ) → use-free-lts.Need-root-of-requires (use-free-claims t) (use-free-at t) use-free.Post
 use-free-root-of-requires t c κs =
     let at-start = c .before .before in
-    (at-start .pre .1 .0 .fit .accepted, at-start .pre .1 .1 .1 .1)
+    (at-start .pre .1 .0 .fit .laid, at-start .pre .1 .1 .1 .1)
 
 use-free-visit-requires : (t : ℕ) → use-free-lts.Need-visit-requires (use-free-claims t) (use-free-at t) use-free.Post
 use-free-visit-requires t c κs =

@@ -138,7 +138,7 @@ use-live-grown t c = record {
 use-live-root-of-requires : (t : ℕ) → use-live-lts.Need-root-of-requires (use-live-claims t) (use-live-at t) use-live.Post use-live-Inv-loop use-live-μ-loop
 use-live-root-of-requires t c κs =
     let pre = c .before .pre .1 in
-    (pre .0 .fit .accepted, pre .1 .0 .1 .1)
+    (pre .0 .fit .laid, pre .1 .0 .1 .1)
 
 use-live-pos-of-requires : (t : ℕ) → use-live-lts.Need-pos-of-requires (use-live-claims t) (use-live-at t) use-live.Post use-live-Inv-loop use-live-μ-loop
 use-live-pos-of-requires t c κs = tt

@@ -9,7 +9,7 @@ use Rattle.visits.proofs.live_of.Reads as live-of-reads
 use Rattle.visits.proofs.pos_of.Reads as pos-of-reads
 use native.Mathlib.Omega.{arith}
 use mathlib.Core.Path.{_≡_, ap, _∙_}
-use Rattle.sheet.proofs.Accepting.{well-formed}
+use Rattle.layout.proofs.Laying.{well-laid}
 use Rattle.visits.specs.Given.{liveIn, posIn}
 use Rattle.visits.specs.Words.{keyOf, Found}
 use Rattle.visits.proofs.ByKind.{uses-grows}
@@ -24,7 +24,7 @@ abbrev Began : ℕ → Type 0
 Began t = use-rule-lts.Start (use-rule-claims t) (use-rule-at t) use-rule.Post
 
 use-rule-small : (t : ℕ) (s : Began t) → s .args .rule < 64
-use-rule-small t s = omega (arith, s .pre .1 .1 .0 .1, well-formed _ (s .pre .1 .0 .fit .accepted) .few-rules)
+use-rule-small t s = omega (arith, s .pre .1 .1 .0 .1, well-laid _ (s .pre .1 .0 .fit .laid) .few-rules)
 
 -- The search leaves the words, and finds the use or says that there is none.
 abbrev Searched : ℕ → Type 0

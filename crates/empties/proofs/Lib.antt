@@ -1,0 +1,5 @@
+pub mod Gathering
+pub mod Marking
+pub mod Empties
+pub mod Repeat
+pub mod Once

@@ -1,0 +1,2 @@
+pub mod Empties
+pub mod Pass
