@@ -24,36 +24,29 @@ static const uint8_t SHEET_A[] = {
     4, 0, 4, 0, 2,        /* 5 choice 4 2 */
     1, 0, 48, 0, 57,      /* 6 a digit */
 };
+/* The nodes of sheet B, which two more sheets begin with. */
+#define NODES_OF_B \
+    2, 0, 1, 0, 0,        /* 0 rule 1 */ \
+    1, 0, 44, 0, 44,      /* 1 ',' */ \
+    3, 0, 1, 0, 0,        /* 2 sequence 1 0 */ \
+    3, 0, 0, 0, 2,        /* 3 sequence 0 2 */ \
+    4, 0, 3, 0, 0,        /* 4 choice 3 0 */ \
+    1, 0, 48, 0, 57       /* 5 a digit */
 static const uint8_t SHEET_B[] = {
     1, 0, 41, 0, 6, 0, 2, /* version, length, six nodes, two rules */
     0, 4, 0, 5,           /* their roots */
-    2, 0, 1, 0, 0,        /* 0 rule 1 */
-    1, 0, 44, 0, 44,      /* 1 ',' */
-    3, 0, 1, 0, 0,        /* 2 sequence 1 0 */
-    3, 0, 0, 0, 2,        /* 3 sequence 0 2 */
-    4, 0, 3, 0, 0,        /* 4 choice 3 0 */
-    1, 0, 48, 0, 57,      /* 5 a digit */
+    NODES_OF_B,
 };
 static const uint8_t B_UNUSED[] = {
     1, 0, 48, 0, 7, 0, 3, /* B with a rule that is never used: version, length, seven nodes, three rules */
     0, 4, 0, 5, 0, 6,     /* their roots */
-    2, 0, 1, 0, 0,        /* 0 rule 1 */
-    1, 0, 44, 0, 44,      /* 1 ',' */
-    3, 0, 1, 0, 0,        /* 2 sequence 1 0 */
-    3, 0, 0, 0, 2,        /* 3 sequence 0 2 */
-    4, 0, 3, 0, 0,        /* 4 choice 3 0 */
-    1, 0, 48, 0, 57,      /* 5 a digit */
+    NODES_OF_B,
     2, 0, 2, 0, 0,        /* 6 rule 2 */
 };
 static const uint8_t B_BEHIND_NOT[] = {
     1, 0, 58, 0, 9, 0, 3, /* the same with D <- !R [0-9]: version, length, nine nodes, three rules */
     0, 4, 0, 8, 0, 6,     /* their roots */
-    2, 0, 1, 0, 0,        /* 0 rule 1 */
-    1, 0, 44, 0, 44,      /* 1 ',' */
-    3, 0, 1, 0, 0,        /* 2 sequence 1 0 */
-    3, 0, 0, 0, 2,        /* 3 sequence 0 2 */
-    4, 0, 3, 0, 0,        /* 4 choice 3 0 */
-    1, 0, 48, 0, 57,      /* 5 a digit */
+    NODES_OF_B,
     2, 0, 2, 0, 0,        /* 6 rule 2 */
     5, 0, 6, 0, 0,        /* 7 not 6 */
     3, 0, 7, 0, 5,        /* 8 sequence 7 5 */
@@ -66,7 +59,6 @@ static const uint8_t NOT_ITSELF[] = {
     1, 0, 97, 0, 97,      /* 2 'a' */
     3, 0, 1, 0, 2,        /* 3 sequence 1 2 */
 };
-
 static const uint8_t OPTION_REPEATED[] = {
     1, 0, 39, 0, 6, 0, 1, /* S <- ('kW'?)*: version, length, six nodes, one rule */
     0, 5,                 /* its root */

@@ -1,0 +1,79 @@
+//! Calls with marked buffers, and what each may leave in them.
+
+use independent::*;
+
+pub struct Outcome {
+    pub answer: Answer,
+    pub work: Vec<u32>,
+    pub room: Vec<u8>,
+}
+
+pub const MARK: u32 = 0xABCD;
+pub const FILL: u8 = 0xEE;
+
+pub fn run(
+    table: &[u8],
+    line: &[u8],
+    allowance: u64,
+    work: usize,
+    room: usize,
+    whole: bool,
+) -> Outcome {
+    let mut work = vec![MARK; work];
+    let mut room = vec![FILL; room];
+    let answer = read(table, line, allowance, &mut work, &mut room, whole);
+    Outcome { answer, work, room }
+}
+
+pub fn nothing_changed(outcome: &Outcome) -> bool {
+    outcome.work.iter().all(|&number| number == MARK)
+        && outcome.room.iter().all(|&byte| byte == FILL)
+}
+
+pub fn formula(table: &[u8], line: &[u8], allowance: u64) -> usize {
+    let n = usize::from(table[3]) * 256 + usize::from(table[4]);
+    2048 + 4 * allowance as usize + 2 * n * (line.len() + 1)
+}
+
+/// READ and 11 to 16: the line was read, to its end or not. LOOP is no such
+/// code, though its number is above theirs.
+pub fn line_was_read(code: u64) -> bool {
+    code == READ || (EFFORT..=ROOM).contains(&code)
+}
+
+/// Reads with five numbers and five bytes more than needed and checks what
+/// is left in both buffers.
+pub fn reads(table: &[u8], line: &[u8], allowance: u64, whole: bool) -> Outcome {
+    let needed = formula(table, line, allowance);
+    let outcome = run(table, line, allowance, needed + 5, 5_010, whole);
+    let code = outcome.answer.code;
+    let expected = if line_was_read(code) { 0 } else { MARK };
+    assert!(outcome.work[..needed]
+        .iter()
+        .all(|&number| number == expected));
+    assert!(outcome.work[needed..].iter().all(|&number| number == MARK));
+    let written = match code {
+        READ => 5 + 5 * outcome.answer.records as usize,
+        _ => 0,
+    };
+    assert!(outcome.room[written..].iter().all(|&byte| byte == FILL));
+    outcome
+}
+
+pub fn answer(code: u64, place: u64, matched: u64, visits: u64, records: u64) -> Answer {
+    Answer {
+        code,
+        place,
+        matched,
+        visits,
+        records,
+    }
+}
+
+pub fn prefix(table: &[u8], line: &[u8]) -> Answer {
+    reads(table, line, 2_500, false).answer
+}
+
+pub fn whole(table: &[u8], line: &[u8]) -> Answer {
+    reads(table, line, 2_500, true).answer
+}
