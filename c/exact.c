@@ -59,6 +59,24 @@ static const uint8_t NOT_ITSELF[] = {
     1, 0, 97, 0, 97,      /* 2 'a' */
     3, 0, 1, 0, 2,        /* 3 sequence 1 2 */
 };
+static const uint8_t LOOKING_AHEAD[] = {
+    1, 0, 39, 0, 6, 0, 1, /* S <- 'a' !('b' 'c'): version, length, six nodes, one rule */
+    0, 5,                 /* its root */
+    1, 0, 97, 0, 97,      /* 0 'a' */
+    1, 0, 98, 0, 98,      /* 1 'b' */
+    1, 0, 99, 0, 99,      /* 2 'c' */
+    3, 0, 1, 0, 2,        /* 3 sequence 1 2 */
+    5, 0, 3, 0, 0,        /* 4 not 3 */
+    3, 0, 0, 0, 4,        /* 5 sequence 0 4 */
+};
+static const uint8_t RIGHT_RECURSIVE[] = {
+    1, 0, 29, 0, 4, 0, 1, /* S <- 'a' S / 'a': version, length, four nodes, one rule */
+    0, 3,                 /* its root */
+    2, 0, 0, 0, 0,        /* 0 rule 0 */
+    1, 0, 97, 0, 97,      /* 1 'a' */
+    3, 0, 1, 0, 0,        /* 2 sequence 1 0 */
+    4, 0, 2, 0, 1,        /* 3 choice 2 1 */
+};
 static const uint8_t OPTION_REPEATED[] = {
     1, 0, 39, 0, 6, 0, 1, /* S <- ('kW'?)*: version, length, six nodes, one rule */
     0, 5,                 /* its root */
@@ -70,12 +88,12 @@ static const uint8_t OPTION_REPEATED[] = {
     6, 0, 4, 0, 0,        /* 5 repetition 4 */
 };
 
-/* Stored readings: A on 7+2, A on 7, B on 1,5, B on 1, S <- !S 'a' on a, S <- 'kW'* on kWkW. */
+/* Stored readings: A on 7+2, A on 7, B on 1,5, B on 1, one byte by one rule, S <- 'kW'* on kWkW. */
 static const uint8_t A_TWO[] = {1, 0, 25, 0, 4, 1, 0, 1, 0, 0, 0, 0, 1, 0, 1, 1, 2, 3, 0, 0, 0, 0, 3, 0, 2};
 static const uint8_t A_ONE[] = {1, 0, 15, 0, 2, 1, 0, 1, 0, 0, 0, 0, 1, 0, 1};
 static const uint8_t B_PAIR[] = {1, 0, 20, 0, 3, 1, 0, 1, 0, 0, 1, 2, 3, 0, 0, 0, 0, 3, 0, 2};
 static const uint8_t B_ONE[] = {1, 0, 15, 0, 2, 1, 0, 1, 0, 0, 0, 0, 1, 0, 1};
-static const uint8_t NOT_ONE[] = {1, 0, 10, 0, 1, 0, 0, 1, 0, 0};
+static const uint8_t ONE_BYTE[] = {1, 0, 10, 0, 1, 0, 0, 1, 0, 0};
 static const uint8_t WORD_TWICE[] = {1, 0, 10, 0, 1, 0, 0, 4, 0, 0};
 
 /* Where the page that can't be touched stands. */
@@ -294,43 +312,62 @@ static void worked_lines(void)
     check(sheet, sheet_length, KOS_READ, 0);
     report(sheet, sheet_length, KOS_READ, 0, 0, 1, 1, 0, 0);
     for (int whole = 0; whole <= 1; whole++) {
-        reads("A on 7+2", "7+2", whole, 2500, DUE(KOS_READ, 0, 3, 22, 4), A_TWO);
-        reads("A on 7+2, allowance 22", "7+2", whole, 22, DUE(KOS_READ, 0, 3, 22, 4), A_TWO);
-        reads("A on 7+2, allowance 21", "7+2", whole, 21, DUE(KOS_EFFORT, 0, 0, 21, 0), NULL);
-        reads("A on 7", "7", whole, 2500, DUE(KOS_READ, 0, 1, 14, 2), A_ONE);
-        reads("A on an empty line", "", whole, 2500, DUE(KOS_FAIL, 0, 0, 5, 0), NULL);
-        reads("A on +", "+", whole, 2500, DUE(KOS_FAIL, 0, 0, 5, 0), NULL);
+        reads("A on 7+2", "7+2", whole, 2500, DUE(KOS_READ, 0, 3, 22, 4, 3), A_TWO);
+        reads("A on 7+2, allowance 22", "7+2", whole, 22, DUE(KOS_READ, 0, 3, 22, 4, 3), A_TWO);
+        reads("A on 7+2, allowance 21", "7+2", whole, 21, DUE(KOS_EFFORT, 0, 0, 21, 0, 3), NULL);
+        reads("A on 7", "7", whole, 2500, DUE(KOS_READ, 0, 1, 14, 2, 1), A_ONE);
+        reads("A on an empty line", "", whole, 2500, DUE(KOS_FAIL, 0, 0, 5, 0, 0), NULL);
+        reads("A on +", "+", whole, 2500, DUE(KOS_FAIL, 0, 0, 5, 0, 0), NULL);
     }
-    reads("A on 7+, prefix", "7+", 0, 2500, DUE(KOS_READ, 0, 1, 16, 2), A_ONE);
-    reads("A on 7+, whole", "7+", 1, 2500, DUE(KOS_REST, 1, 1, 16, 0), NULL);
+    reads("A on 7+, prefix", "7+", 0, 2500, DUE(KOS_READ, 0, 1, 16, 2, 2), A_ONE);
+    reads("A on 7+, whole", "7+", 1, 2500, DUE(KOS_REST, 1, 1, 16, 0, 2), NULL);
 
     TAKE(SHEET_B);
     check(sheet, sheet_length, KOS_READ, 0);
     report(sheet, sheet_length, KOS_READ, 0, 0, 0, 0, 64, 1);
     for (int whole = 0; whole <= 1; whole++) {
-        reads("B on 1,5", "1,5", whole, 49, DUE(KOS_READ, 0, 3, 8, 3), B_PAIR);
-        reads("B on 1", "1", whole, 2500, DUE(KOS_READ, 0, 1, 7, 2), B_ONE);
+        reads("B on 1,5", "1,5", whole, 49, DUE(KOS_READ, 0, 3, 8, 3, 2), B_PAIR);
+        reads("B on 1", "1", whole, 2500, DUE(KOS_READ, 0, 1, 7, 2, 1), B_ONE);
     }
     uint8_t turned[sizeof SHEET_B];
     memcpy(turned, SHEET_B, sizeof turned);
     turned[33] = 0, turned[35] = 3; /* node 4: choice 0 3 */
     TAKE(turned);
-    reads("B turned round on 1,5", "1,5", 1, 2500, DUE(KOS_REST, 1, 1, 3, 0), NULL);
+    reads("B turned round on 1,5", "1,5", 1, 2500, DUE(KOS_REST, 1, 1, 3, 0, 0), NULL);
 
     TAKE(B_UNUSED);
     report(sheet, sheet_length, KOS_READ, 0, 0, 4, 1, 2, 1);
     for (int whole = 0; whole <= 1; whole++) {
-        reads("B with a rule unused on 1,5", "1,5", whole, 8, DUE(KOS_READ, 0, 3, 8, 3), B_PAIR);
-        reads("B with a rule unused on 1", "1", whole, 2500, DUE(KOS_READ, 0, 1, 7, 2), B_ONE);
+        reads("B with a rule unused on 1,5", "1,5", whole, 8, DUE(KOS_READ, 0, 3, 8, 3, 2), B_PAIR);
+        reads("B with a rule unused on 1", "1", whole, 2500, DUE(KOS_READ, 0, 1, 7, 2, 1), B_ONE);
     }
     TAKE(B_BEHIND_NOT);
     report(sheet, sheet_length, KOS_READ, 0, 0, 4, 1, 2, 0);
-    reads("B with rule 2 behind a not on 1,5", "1,5", 1, 2500, DUE(KOS_READ, 0, 3, 52, 3), B_PAIR);
-    reads("B with rule 2 behind a not on 1", "1", 1, 2500, DUE(KOS_READ, 0, 1, 52, 2), B_ONE);
+    reads("B with rule 2 behind a not on 1,5", "1,5", 1, 2500, DUE(KOS_READ, 0, 3, 52, 3, 2), B_PAIR);
+    reads("B with rule 2 behind a not on 1", "1", 1, 2500, DUE(KOS_READ, 0, 1, 52, 2, 1), B_ONE);
 
     TAKE(NOT_ITSELF);
     report(sheet, sheet_length, KOS_READ, 0, 0, 1, 1, 0, 0);
-    reads("S <- !S 'a' on a", "a", 1, 2500, DUE(KOS_READ, 0, 1, 7, 1), NOT_ONE);
+    reads("S <- !S 'a' on a", "a", 1, 2500, DUE(KOS_READ, 0, 1, 7, 1, 0), ONE_BYTE);
+}
+
+/* What a not looks at counts, up to the visit that is refused and not with it. */
+static void furthest_ranges(void)
+{
+    static char line[256];
+    memset(line, 'a', 255);
+    TAKE(LOOKING_AHEAD);
+    reads("S <- 'a' !('b' 'c') on abd, prefix", "abd", 0, 2500, DUE(KOS_READ, 0, 1, 6, 1, 2), ONE_BYTE);
+    reads("S <- 'a' !('b' 'c') on abd, whole", "abd", 1, 2500, DUE(KOS_REST, 1, 1, 6, 0, 2), NULL);
+    reads("S <- 'a' !('b' 'c') on ab", "ab", 0, 2500, DUE(KOS_READ, 0, 1, 6, 1, 2), ONE_BYTE);
+    for (int whole = 0; whole <= 1; whole++) {
+        reads("S <- 'a' !('b' 'c') on a", "a", whole, 2500, DUE(KOS_READ, 0, 1, 5, 1, 1), ONE_BYTE);
+        reads("S <- 'a' !('b' 'c') on abc", "abc", whole, 2500, DUE(KOS_FAIL, 0, 0, 6, 0, 2), NULL);
+        reads("S <- 'a' !('b' 'c') on abd, allowance 5", "abd", whole, 5, DUE(KOS_EFFORT, 2, 0, 5, 0, 1), NULL);
+        reads("S <- 'a' !('b' 'c') on abd, allowance 4", "abd", whole, 4, DUE(KOS_EFFORT, 1, 0, 4, 0, 0), NULL);
+    }
+    TAKE(RIGHT_RECURSIVE);
+    reads("S <- 'a' S / 'a' on 255 bytes", line, 1, 2500, DUE(KOS_DEEP, 170, 0, 682, 0, 169), NULL);
 }
 
 /* The records of rules that double: the tree of a rule, at 0 to 0. Gives where the next record goes. */
@@ -362,9 +399,9 @@ static void doubling_rules(void)
     put_doubled(stored + 5, 0, 8);
     take_doubling(9);
     report(sheet, sheet_length, KOS_READ, 0, 511, 0, 0, 64, 1);
-    reads("nine rules that double", "", 1, 2500, DUE(KOS_READ, 0, 0, 25, 511), stored);
+    reads("nine rules that double", "", 1, 2500, DUE(KOS_READ, 0, 0, 25, 511, 0), stored);
     take_doubling(10);
-    reads("ten rules that double", "", 1, 2500, DUE(KOS_RECORDS, 0, 0, 28, 1001), NULL);
+    reads("ten rules that double", "", 1, 2500, DUE(KOS_RECORDS, 0, 0, 28, 1001, 0), NULL);
 }
 
 /* A on 7+7+..7, 255 bytes: each digit is a D, and an S around it and the S before it. */
@@ -379,16 +416,16 @@ static void long_lines(void)
         memcpy(stored + 5 + 10 * digit, records, sizeof records);
     }
     TAKE(SHEET_A);
-    reads("A on 256 bytes", line, 1, 2500, DUE(KOS_LINE, 0, 0, 0, 0), NULL);
+    reads("A on 256 bytes", line, 1, 2500, DUE(KOS_LINE, 0, 0, 0, 0, 0), NULL);
     line[255] = 0;
-    reads("A on 255 bytes", line, 1, 1030, DUE(KOS_READ, 0, 255, 1030, 256), stored);
+    reads("A on 255 bytes", line, 1, 1030, DUE(KOS_READ, 0, 255, 1030, 256, 255), stored);
 }
 
 /* A on 7+2 with an allowance of 22 needs 2,192 working numbers and 25 bytes of room. */
 static void limits_of_what_is_lent(void)
 {
-    const uint64_t *work = DUE(KOS_WORK, 0, 0, 0, 0), *room = DUE(KOS_ROOM, 3, 3, 22, 4);
-    const uint64_t *allow = DUE(KOS_ALLOW, 0, 0, 0, 0);
+    const uint64_t *work = DUE(KOS_WORK, 0, 0, 0, 0, 0), *room = DUE(KOS_ROOM, 3, 3, 22, 4, 3);
+    const uint64_t *allow = DUE(KOS_ALLOW, 0, 0, 0, 0, 0);
     TAKE(SHEET_A);
     read_lent(asked("a working number short", "7+2", 1, 22, work, NULL), 2191, 25);
     read_lent(asked("no working numbers", "7+2", 1, 22, work, NULL), 0, 25);
@@ -402,7 +439,7 @@ static void limits_of_what_is_lent(void)
 /* A table that is refused is refused by all four, and nothing is changed. */
 static void refused(const char *name, const uint8_t *table, size_t length, uint64_t code, uint64_t place)
 {
-    const uint64_t *due = DUE(code, place, 0, 0, 0);
+    const uint64_t *due = DUE(code, place, 0, 0, 0, 0);
     now = name;
     check(table, length, code, place);
     report(table, length, code, place, 0, 0, 0, 64, 0);
@@ -446,7 +483,7 @@ static void repetitions_of_nothing(void)
     static char line[257];
     static uint8_t table[sizeof OPTION_REPEATED];
     size_t length = sizeof table;
-    const uint64_t *due = DUE(KOS_LOOP, 5, 0, 0, 0);
+    const uint64_t *due = DUE(KOS_LOOP, 5, 0, 0, 0, 0);
     memset(line, 'k', 256);
     refused("('kW'?)*", OPTION_REPEATED, length, KOS_LOOP, 5);
     for (int whole = 0; whole <= 1; whole++) {
@@ -469,8 +506,8 @@ static void repetitions_of_nothing(void)
     check(sheet, sheet_length, KOS_READ, 0);
     report(sheet, sheet_length, KOS_READ, 0, 1, 0, 0, 64, 1);
     for (int whole = 0; whole <= 1; whole++)
-        reads("'kW'* on kWkW", "kWkW", whole, 2500, DUE(KOS_READ, 0, 4, 11, 1), WORD_TWICE);
-    reads("'kW'* on 256 bytes", line, 1, 2500, DUE(KOS_LINE, 0, 0, 0, 0), NULL);
+        reads("'kW'* on kWkW", "kWkW", whole, 2500, DUE(KOS_READ, 0, 4, 11, 1, 4), WORD_TWICE);
+    reads("'kW'* on 256 bytes", line, 1, 2500, DUE(KOS_LINE, 0, 0, 0, 0, 0), NULL);
 }
 
 int main(void)
@@ -479,6 +516,7 @@ int main(void)
     signal(SIGBUS, touched);
     for (side = BEHIND; side <= IN_FRONT; side++) {
         worked_lines();
+        furthest_ranges();
         doubling_rules();
         long_lines();
         limits_of_what_is_lent();

@@ -117,6 +117,21 @@ static void measure_chain(const struct chain *chain)
     measure(chain->name, call_read, chain->code);
 }
 
+/* S <- !!..!R with 509 nots; R <- 'a' / R: of the 512 open visits the last is one of a range, where nothing is kept. */
+static void range_at_the_bottom(void)
+{
+    begin(0);
+    size_t byte = add_node(&table, RANGE, 'a', 'a'), use = add_node(&table, RULE, 1, 0);
+    size_t root = add_node(&table, CHOICE, byte, use), top_node = use;
+    while (table.node_count < KOS_MOST_NODES) top_node = add_node(&table, NOT, top_node, 0);
+    add_root(&table, top_node);
+    add_root(&table, root);
+    finish(&table);
+    call_report();
+    must(answer[KOS_AT_FREE] == 0, "not as free as is meant");
+    measure("509 nots over a live use, over a range", call_read, KOS_READ);
+}
+
 /* An 'a'. Where nothing shall be kept, or else a rule that begins with itself: this one, the last. */
 static size_t byte_or_rule(int is_free, size_t last)
 {
@@ -141,6 +156,7 @@ static void right_recursion(int is_free)
     add_root(&table, add_node(&table, CHOICE, longer, add_node(&table, EMPTY, 0, 0)));
     end(is_free);
     measure(is_free ? "right recursion to 512, free" : "right recursion to 512, live uses", call_read, KOS_DEEP);
+    must(answer[KOS_AT_FURTHEST] > 0 && answer[KOS_AT_FURTHEST] <= answer[KOS_AT_PLACE], "not as far as is meant");
 }
 
 /*
@@ -240,6 +256,7 @@ int main(void)
 {
     printf("   bytes  of stack\n");
     for (size_t i = 0; i < sizeof chains / sizeof chains[0]; i++) measure_chain(&chains[i]);
+    range_at_the_bottom();
     for (int is_free = 0; is_free <= 1; is_free++) {
         right_recursion(is_free);
         repetitions(is_free);

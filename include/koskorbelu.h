@@ -59,7 +59,7 @@ enum kos_code {
 /* Numbers in an answer of kos_check, kos_report and the two readings. */
 #define KOS_CHECK_NUMBERS 2
 #define KOS_REPORT_NUMBERS 7
-#define KOS_READ_NUMBERS 5
+#define KOS_READ_NUMBERS 6
 
 /* Where they stand. Every answer begins with code and place. */
 enum kos_at {
@@ -74,7 +74,8 @@ enum kos_at {
     /* a reading */
     KOS_AT_MATCHED = 2,
     KOS_AT_VISITS = 3,
-    KOS_AT_RECORDS = 4
+    KOS_AT_RECORDS = 4,
+    KOS_AT_FURTHEST = 5
 };
 
 /* Limits. */
@@ -117,13 +118,18 @@ void kos_report(const uint8_t *table, size_t table_length, uint64_t answer[KOS_R
 /*
  * How far the sheet matches from the line's beginning.
  *
- * answer: code, place, matched, visits, records.
+ * answer: code, place, matched, visits, records, furthest.
  *
  *   SHORT to WORK   zeros after the place; the same with LOOP.
- *   EFFORT to FAIL  matched 0, the visits made, records 0.
- *   RECORDS         matched, visits, 1,001.
- *   ROOM            matched, visits, the true number of records.
+ *   EFFORT to FAIL  matched 0, the visits made, records 0, furthest.
+ *   RECORDS         matched, visits, 1,001, furthest.
+ *   ROOM            matched, visits, the true number of records, furthest.
  *   READ            the same, and the tree is stored in the room.
+ *
+ * furthest: the largest position at which a range node was visited, 0 if none
+ * was. Ranges that fail count, also inside a not and at the line's end, where
+ * it is the line's length; a refused visit does not. So it may be beyond the
+ * match, and is mostly where a line went wrong.
  *
  * work: SHORT to WORK and LOOP leave it as found. Else the first numbers, as
  * many as KOS_WORK_NEEDED says, are 0 and the rest is as found. What stood
@@ -145,7 +151,8 @@ void kos_read_prefix(const uint8_t *table, size_t table_length,
 
 /*
  * The same, where the whole line has to match: a match that ends before the
- * line does gives REST, with place and matched its end, visits, records 0.
+ * line does gives REST, with place and matched its end, visits, records 0,
+ * furthest.
  */
 void kos_read_whole(const uint8_t *table, size_t table_length,
                     const uint8_t *line, size_t line_length,

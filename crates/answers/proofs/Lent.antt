@@ -18,16 +18,16 @@ chosen true x y = refl
 chosen false x y = refl
 
 module _ (whole : Bool) (work room work′ room′ : List ℕ) (bytes : length room ≡ length room′) where
-  match-same : (long e : ℕ) (ts : Trees) (visits : ℕ) → matchOutcome whole long e ts visits work room .reading ≡ matchOutcome whole long e ts visits work′ room′ .reading
+  match-same : (long e : ℕ) (ts : Trees) (visits furthest : ℕ) → matchOutcome whole long e ts visits furthest work room .reading ≡ matchOutcome whole long e ts visits furthest work′ room′ .reading
   unfolding matchOutcome
-  match-same long e ts visits = simp (bytes, chosen)
+  match-same long e ts visits furthest = simp (bytes, chosen)
 
   run-same : (long lent : ℕ) (run : Run) → runOutcome whole long lent run work room .reading ≡ runOutcome whole long lent run work′ room′ .reading
   unfolding runOutcome
   run-same long lent (effort p s) = refl
   run-same long lent (deep p s) = refl
   run-same long lent (done fail s) = refl
-  run-same long lent (done (ok e ts) s) = match-same long e ts _
+  run-same long lent (done (ok e ts) s) = match-same long e ts _ _
 
 same-reading : (whole : Bool) (table line : List ℕ) (lent : ℕ) (work room work′ room′ : List ℕ) → length work ≡ length work′ → length room ≡ length room′
     → readingOf whole table line lent work room .reading ≡ readingOf whole table line lent work′ room′ .reading

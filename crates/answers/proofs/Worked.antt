@@ -5,15 +5,15 @@ use Rattle.reader.specs.Answer.{numbers}
 use Rattle.answers.specs.Quoted.{bytes}
 use Rattle.answers.specs.Printed.{names, nameOf, refusalText, readText, answerText}
 
-pub read-3-8-3 : answerText (numbers 0 0 3 8 3) ≡ bytes "READ 3 8 3\n"
+pub read-3-8-3 : answerText (numbers 0 0 3 8 3 2) ≡ bytes "READ 3 8 3\n"
 unfolding answerText readText nameOf names bytes decimal decimalWithin
 read-3-8-3 = refl
 
-pub rest-1-7 : answerText (numbers 14 1 1 7 0) ≡ bytes "REST 1 7\n"
+pub rest-1-7 : answerText (numbers 14 1 1 7 0 1) ≡ bytes "REST 1 7\n"
 unfolding answerText refusalText nameOf names bytes decimal decimalWithin
 rest-1-7 = refl
 
-pub fail-0-5 : answerText (numbers 13 0 0 5 0) ≡ bytes "FAIL 0 5\n"
+pub fail-0-5 : answerText (numbers 13 0 0 5 0 0) ≡ bytes "FAIL 0 5\n"
 unfolding answerText refusalText nameOf names bytes decimal decimalWithin
 fail-0-5 = refl
 

@@ -89,7 +89,7 @@ fn ask_report(table: &[u8], page: &mut Page, desk: Desk) -> Desk {
     answered(page, desk, &row)
 }
 
-// The five numbers of a reading, then the digests of the room and of the working numbers.
+// The six numbers of a reading, then the digests of the room and of the working numbers.
 fn reading(
     whole: bool,
     table: &[u8],
@@ -98,7 +98,7 @@ fn reading(
     work: &mut [u32],
     room: &mut [u8],
     fill: u8,
-) -> [u64; 7] {
+) -> [u64; 8] {
     fill::numbers(work, fill);
     fill::bytes(room, fill);
     let answer = readers::read(whole, table, line, allowance, work, room);
@@ -108,6 +108,7 @@ fn reading(
         answer[2],
         answer[3],
         answer[4],
+        answer[5],
         fill::digest_of_bytes(room),
         fill::digest_of_numbers(work),
     ]

@@ -41,7 +41,7 @@ pub(crate) fn read(
     allowance: u64,
     work: &mut [u32],
     room: &mut [u8],
-) -> [u64; 5] {
+) -> [u64; 6] {
     let answer = answer(whole, table, line, allowance, work, room);
     [
         answer.code,
@@ -49,6 +49,7 @@ pub(crate) fn read(
         answer.matched,
         answer.visits,
         answer.records,
+        answer.furthest,
     ]
 }
 

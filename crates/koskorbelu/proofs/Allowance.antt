@@ -23,16 +23,16 @@ use Rattle.koskorbelu.proofs.Demand2.{not-answering, ended-visits, ende
 abbrev pub allowing : Call → (allowance : ℕ) → (work : List ℕ) → Call
 allowing c allowance work = record { whole = c .whole; table = c .table; line = c .line; allowance = allowance; work = work; room = c .room }
 
--- The same five numbers, and the same room.
+-- The same six numbers, and the same room.
 pub record Alike (o p : Outcome) : Type 0 where
   pub reading : o .reading ≡ p .reading
   pub room : o .room ≡ p .room
 
 module _ (c : Call) (t : Taken c) (a : ℕ) (w : List ℕ) (t′ : Taken (allowing c a w)) where
-  told-alike : (n : ℕ) (r : Answer) → Alike (told c n r) (told (allowing c a w) n r)
+  told-alike : (n f : ℕ) (r : Answer) → Alike (told c n f r) (told (allowing c a w) n f r)
   unfolding matchOutcome
-  told-alike n fail = record { reading = refl; room = refl }
-  told-alike n (ok e ts) =
+  told-alike n f fail = record { reading = refl; room = refl }
+  told-alike n f (ok e ts) =
       by-test-twice Alike (c .whole && ltb e (length (c .line))) _ _ _ _ (record { reading = refl; room = refl })
       (by-test-twice Alike (ltb mostRecords (recordsOf ts)) _ _ _ _ (record { reading = refl; room = refl })
       (by-test-twice Alike (ltb (length (c .room)) (storedLength positionWidth (recordsOf ts))) _ _ _ _ (record { reading = refl; room = refl }) (record { reading = refl; room = refl })))
@@ -43,7 +43,7 @@ module _ (c : Call) (t : Taken c) (a : ℕ) (w : List ℕ) (t′ : Taken (allowi
   answered (deep m) h = not-answering h (omega arith)
   answered (done {r = r} {s = s} m h) k = (r, s, m, ended-visits c h)
 
-  refused : {o : Outcome} → Came c o → code o ≡ DEEP → (p : ℕ) × (s : State) × (run c ≡ Run.deep p s) × (o ≡ ended c DEEP p 0 (made (c .allowance) s) 0)
+  refused : {o : Outcome} → Came c o → code o ≡ DEEP → (p : ℕ) × (s : State) × (run c ≡ Run.deep p s) × (o ≡ ended c DEEP p 0 (made (c .allowance) s) 0 (s .furthest))
   refused (effort m) e = absurd (omega arith)
   refused (deep {p = p} {s = s} m) e = (p, s, m, refl)
   refused (done m h) e = not-answering (subst Answers e (ended-answers c h)) (omega arith)
@@ -55,10 +55,10 @@ module _ (c : Call) (t : Taken c) (a : ℕ) (w : List ℕ) (t′ : Taken (allowi
       let v = k .3 in
       let n = done-always (grammar c) (c .line) (isFree (grammar c)) (c .allowance) (k .0) (k .1) (k .2) in
       let s = n .1 in
-      let m = larger (grammar c) (c .line) (isFree (grammar c)) a (n .0) 0 (Run.done (k .0)) (n .2) (omega arith) in
+      let m = larger (grammar c) (c .line) (isFree (grammar c)) a (n .0) (k .1 .furthest) 0 (Run.done (k .0)) (n .2) (omega arith) in
       let l = m .1 in
       let same : made a (m .0) ≡ made (c .allowance) (k .1) = omega arith in
-      rw (by-answer c t (k .0) (k .1) (k .2), by-answer (allowing c a w) t′ (k .0) (m .0) (m .2), same) (told-alike (made (c .allowance) (k .1)) (k .0))
+      rw (by-answer c t (k .0) (k .1) (k .2), by-answer (allowing c a w) t′ (k .0) (m .0) (m .3), same, m .2) (told-alike (made (c .allowance) (k .1)) (k .1 .furthest) (k .0))
 
   pub deep-alike : code (back c) ≡ DEEP → visits (back c) < a → Alike (back c) (back (allowing c a w))
   unfolding read
@@ -67,11 +67,11 @@ module _ (c : Call) (t : Taken c) (a : ℕ) (w : List ℕ) (t′ : Taken (allowi
       let v : visits (back c) ≡ made (c .allowance) (k .1) = ap visits (k .3) in
       let n = deep-always (grammar c) (c .line) (isFree (grammar c)) (c .allowance) (k .0) (k .1) (k .2) in
       let s = n .1 in
-      let m = larger (grammar c) (c .line) (isFree (grammar c)) a (n .0) 1 (Run.deep (k .0)) (n .2) (omega arith) in
+      let m = larger (grammar c) (c .line) (isFree (grammar c)) a (n .0) (k .1 .furthest) 1 (Run.deep (k .0)) (n .2) (omega arith) in
       let l = m .1 in
       let same : made a (m .0) ≡ made (c .allowance) (k .1) = omega arith in
-      let there : back (allowing c a w) ≡ ended (allowing c a w) DEEP (k .0) 0 (made a (m .0)) 0 = gives (allowing c a w) (taken t′ (deep (m .2))) in
-      rw (k .3, there, same) (record { reading = refl; room = refl })
+      let there : back (allowing c a w) ≡ ended (allowing c a w) DEEP (k .0) 0 (made a (m .0)) 0 (m .0 .furthest) = gives (allowing c a w) (taken t′ (deep (m .3))) in
+      rw (k .3, there, same, m .2) (record { reading = refl; room = refl })
 
   pub effort-below : Answers (code (back c)) → a < visits (back c) → code (back (allowing c a w)) ≡ EFFORT
   unfolding read

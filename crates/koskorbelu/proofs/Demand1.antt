@@ -39,11 +39,11 @@ module _ (c : Call) where
   by-run t e = rw (accepted (t .sheet), le-ltb _ _ (t .short), ne-eqb _ _ (t .allowed .0), le-ltb _ _ (t .allowed .1), le-ltb _ _ (t .lent), e)
 
   -- What comes back of an answer.
-  abbrev pub told : (visits : ℕ) → Answer → Outcome
-  told visits fail = ended c FAIL 0 0 visits 0
-  told visits (ok e ts) = matchOutcome (c .whole) (length (c .line)) e ts visits (cleared (needed c) (c .work)) (c .room)
+  abbrev pub told : (visits furthest : ℕ) → Answer → Outcome
+  told visits furthest fail = ended c FAIL 0 0 visits 0 furthest
+  told visits furthest (ok e ts) = matchOutcome (c .whole) (length (c .line)) e ts visits furthest (cleared (needed c) (c .work)) (c .room)
 
-  pub told-so : {visits : ℕ} {r : Answer} {o : Outcome} → Ended c visits r o → told visits r ≡ o
+  pub told-so : {visits furthest : ℕ} {r : Answer} {o : Outcome} → Ended c visits furthest r o → told visits furthest r ≡ o
   unfolding matchOutcome
   told-so fails = refl
   told-so (rest {e = e} h) = rw (ends-iff e .1 h)
@@ -51,7 +51,7 @@ module _ (c : Call) where
   told-so (room {e = e} n h l) = rw (failed-iff (ends-iff e) .1 n, le-ltb _ _ h, lt-ltb _ _ l)
   told-so (reads {e = e} n h l) = rw (failed-iff (ends-iff e) .1 n, le-ltb _ _ h, le-ltb _ _ l)
 
-  pub by-answer : Taken c → (r : Answer) (s : State) → run c ≡ Run.done r s → back c ≡ told (made (c .allowance) s) r
+  pub by-answer : Taken c → (r : Answer) (s : State) → run c ≡ Run.done r s → back c ≡ told (made (c .allowance) s) (s .furthest) r
   unfolding runOutcome
   by-answer t fail s e = by-run t e
   by-answer t (ok y ts) s e = by-run t e
@@ -69,7 +69,7 @@ module _ (c : Call) where
 
   -- ---- What comes back is given.
   of-match : (e : ℕ) (ts : Trees) (s : State) → run c ≡ Run.done (ok e ts) s
-      → Came c (matchOutcome (c .whole) (length (c .line)) e ts (made (c .allowance) s) (cleared (needed c) (c .work)) (c .room))
+      → Came c (matchOutcome (c .whole) (length (c .line)) e ts (made (c .allowance) s) (s .furthest) (cleared (needed c) (c .work)) (c .room))
   unfolding matchOutcome
   of-match e ts s m =
       by-test (Came c) (c .whole && ltb e (length (c .line))) _ _ (λ q. done m (rest (ends-iff e .0 q)))

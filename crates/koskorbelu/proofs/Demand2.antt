@@ -1,4 +1,4 @@
--- Demand 2: a line that is read to its answer has the bounded rules' match and tree, the only ones, in the visits that 01 counts. Beyond it: there always is such an
+-- Demand 2: a line that is read to its answer has the bounded rules' match and tree, the only ones, in the visits that 01 counts and with their furthest position. Beyond it: there always is such an
 -- answer, and on a sheet that is not free it comes back wherever the allowance suffices, or DEEP does.
 use mathlib.Core.Path.{_≡_, refl, sym, ap, subst, _∙_}
 use mathlib.Core.Bool.{true}
@@ -7,9 +7,11 @@ use Prim.Native.Nat.{ℕ, suc, _+_, _<_, _≤_}
 use native.Mathlib.Omega.{arith}
 use lib.ListN.{length}
 use Rattle.meaning.specs.Grammar.{Closed, Answer}
-use Rattle.meaning.specs.Rules.{Reads}
+use Rattle.meaning.specs.Rules.{Amount, Reads}
 use Rattle.meaning.specs.Report.{Free}
 use Rattle.meaning.specs.Reading.{State, made, Run, readBy}
+use Rattle.meaning.proofs.Runs.{Ends}
+use Rattle.meaning.proofs.Amounts.{amounts}
 use Rattle.meaning.proofs.Claims as claims
 use Rattle.meaning.proofs.Claims.{Only}
 use Rattle.meaning.proofs.OneBounded.{one-reading}
@@ -21,7 +23,7 @@ use Rattle.sheet.specs.Check.{LOOP, checkOf}
 use Rattle.sheet.specs.Given.{WellFormed}
 use Rattle.sheet.proofs.Exact.{given-iff, check-code}
 use Rattle.reader.specs.Answer.{EFFORT, DEEP, FAIL, ROOM, Outcome}
-use Rattle.koskorbelu.specs.Demands.{Call, back, code, visits, grammar, run, Ended, fails, rest, records, room, reads, Came, effort, deep, done, Taken, Given, check, line, allow}
+use Rattle.koskorbelu.specs.Demands.{Call, back, code, visits, furthest, grammar, run, Ended, fails, rest, records, room, reads, Came, effort, deep, done, Taken, Given, check, line, allow}
 use Rattle.koskorbelu.specs.Demands.{work, taken, Answers, Demand2}
 use Rattle.koskorbelu.proofs.Demand1.{gives, came, given}
 use Rattle.koskorbelu.proofs.Rows.{exactly}
@@ -43,21 +45,36 @@ not-answering {A} {k} h l = by (answering h)
     by (inr m) = absurd (omega arith)
 
 module _ (c : Call) where
-  pub ended-visits : {n : ℕ} {r : Answer} {o : Outcome} → Ended c n r o → visits o ≡ n
+  pub ended-visits : {n f : ℕ} {r : Answer} {o : Outcome} → Ended c n f r o → visits o ≡ n
   ended-visits fails = refl
   ended-visits (rest h) = refl
   ended-visits (records n h) = refl
   ended-visits (room n h l) = refl
   ended-visits (reads n h l) = refl
 
-  pub ended-answers : {n : ℕ} {r : Answer} {o : Outcome} → Ended c n r o → Answers (code o)
+  pub ended-furthest : {n f : ℕ} {r : Answer} {o : Outcome} → Ended c n f r o → furthest o ≡ f
+  ended-furthest fails = refl
+  ended-furthest (rest h) = refl
+  ended-furthest (records n h) = refl
+  ended-furthest (room n h l) = refl
+  ended-furthest (reads n h l) = refl
+
+  -- By the outcome's own numbers.
+  pub ended-own : {n f : ℕ} {r : Answer} {o : Outcome} → Ended c n f r o → Ended c (visits o) (furthest o) r o
+  ended-own fails = fails
+  ended-own (rest h) = rest h
+  ended-own (records n h) = records n h
+  ended-own (room n h l) = room n h l
+  ended-own (reads n h l) = reads n h l
+
+  pub ended-answers : {n f : ℕ} {r : Answer} {o : Outcome} → Ended c n f r o → Answers (code o)
   ended-answers fails = Answers.fails
   ended-answers (rest h) = Answers.rest
   ended-answers (records n h) = Answers.records
   ended-answers (room n h l) = Answers.room
   ended-answers (reads n h l) = Answers.reads
 
-  pub no-effort : {n : ℕ} {r : Answer} {o : Outcome} → Ended c n r o → code o ≢ EFFORT
+  pub no-effort : {n f : ℕ} {r : Answer} {o : Outcome} → Ended c n f r o → code o ≢ EFFORT
   no-effort h e = not-answering (subst Answers e (ended-answers h)) (omega arith)
 
   -- The grammar of an accepted table is closed and has a rule.
@@ -91,22 +108,23 @@ module _ (c : Call) where
   by-rules t q (effort m) a = not-answering a (omega arith)
   by-rules t q (deep m) a = not-answering a (omega arith)
   by-rules t {o} q (done {r = r} {s = s} m h) a =
-      let found : (n : ℕ) × Only (grammar c) (c .line) r n = rw m at (claims.read-bounded (grammar c) (c .line) (c .allowance)) in
+      let found : (n : Amount) × Only (grammar c) (c .line) r n × (s .furthest ≡ n .furthest) = rw m at (claims.read-bounded (grammar c) (c .line) (c .allowance)) in
       let v : visits o ≡ made (c .allowance) s = ended-visits h in
       record {
         answer = r;
-        count = found .0;
+        amount = found .0;
         rules = found .1 .reads;
         only = λ p k x. let i = found .1 .only p k x in (sym (i .answer), sym (i .count));
-        said = rw q (subst (λ (n : ℕ). Ended c n r o) (sym v) h);
+        said = rw q (ended-own h);
+        reached = rw q (ended-furthest h ∙ found .2);
         others = λ not-free. rw (q, v) (exact-count not-free m (found .1 .reads));
         kept = λ free. rw (q, v) (kept-count free m);
       }
     where
-      exact-count : ¬ Free (grammar c) → {r : Answer} {s : State} {n : ℕ} → run c ≡ Run.done r s → Reads (grammar c) (c .line) r n → made (c .allowance) s ≡ n
+      exact-count : ¬ Free (grammar c) → {r : Answer} {s : State} {n : Amount} → run c ≡ Run.done r s → Reads (grammar c) (c .line) r n → made (c .allowance) s ≡ n .visits
       exact-count not-free {r = r} {s = s} m h =
-          let only : Only (grammar c) (c .line) r (made (c .allowance) s) = rw m at (claims.other-sound (grammar c) (c .line) (c .allowance) (is-closed (t .sheet)) not-free) in
-          one-reading (grammar c) (c .line) (only .reads) h .count
+          let only : Only (grammar c) (c .line) r (amounts (c .allowance) s) = rw m at (claims.other-sound (grammar c) (c .line) (c .allowance) (is-closed (t .sheet)) not-free) in
+          ap (λ (n : Amount). n .visits) (one-reading (grammar c) (c .line) (only .reads) h .count)
 
       kept-count : Free (grammar c) → {r : Answer} {s : State} → run c ≡ Run.done r s
           → (spare : ℕ) → (u : State) × (u .left ≡ spare) × (readBy (grammar c) (c .line) true (made (c .allowance) s + spare) ≡ Run.done r u)
@@ -115,7 +133,7 @@ module _ (c : Call) where
           let e = h .1 in
           let n : made (c .allowance) s + j ≡ h .0 + j = omega arith in
           let k = h .2 j (omega arith) in
-          (k .0, k .1, ap (readBy (grammar c) (c .line) true) n ∙ k .2)
+          (k .0, k .1, ap (readBy (grammar c) (c .line) true) n ∙ k .3)
 
   pub demand-2 : Answers (code (back c)) → Demand2 c (back c)
   demand-2 a = let t = was-taken (given c) a in by-rules t refl (came c t) a
@@ -134,6 +152,22 @@ module _ (c : Call) where
       of (taken t (deep e)) = omega arith
       of (taken t (done e h)) = rw (ended-visits h) (omega arith)
 
+  -- The furthest position is one of the line's, or its end; 0 where the call is turned away.
+  pub furthest-inside : furthest (back c) ≤ length (c .line)
+  furthest-inside = of (given c)
+    where
+      within : {m : Run} → run c ≡ m → Ends (λ t. t .furthest ≤ length (c .line)) (λ t. t .furthest ≤ length (c .line)) (λ r t. t .furthest ≤ length (c .line)) m
+      within e = subst (Ends _ _ _) e (claims.read-inside (grammar c) (c .line) (c .allowance))
+
+      of : {o : Outcome} → Given c o → furthest o ≤ length (c .line)
+      of (check h n) = omega arith
+      of (line w h) = omega arith
+      of (allow w s h) = omega arith
+      of (work w s l h) = omega arith
+      of (taken t (effort e)) = within e
+      of (taken t (deep e)) = within e
+      of (taken t (done e h)) = rw (ended-furthest h) (within e)
+
   -- Refused for effort, exactly the visits allowed were made; refused for depth, fewer.
   pub effort-visits : code (back c) ≡ EFFORT → visits (back c) ≡ c .allowance
   effort-visits e =
@@ -147,31 +181,31 @@ module _ (c : Call) where
       let z : (0 < h .1 .1 .left) × (made (c .allowance) (h .1 .1) + h .1 .1 .left ≡ c .allowance) = rw (h .1 .2) at (claims.effort-made (grammar c) (c .line) (c .allowance)) in
       rw (gives c (taken (h .0) (deep (h .1 .2)))) (omega (arith, z .0, z .1))
 
-  module _ (t : Taken c) (not-free : ¬ Free (grammar c)) {r : Answer} {n : ℕ} (h : Reads (grammar c) (c .line) r n) where
-    -- Where the bounded rules answer in n visits and so many are allowed, that is what comes back, in n visits, or DEEP.
-    pub complete : n ≤ c .allowance → (code (back c) ≡ DEEP) ⊎ Ended c n r (back c)
+  module _ (t : Taken c) (not-free : ¬ Free (grammar c)) {r : Answer} {n : Amount} (h : Reads (grammar c) (c .line) r n) where
+    -- Where the bounded rules answer in n visits and so many are allowed, that is what comes back, in n visits and with their furthest position, or DEEP.
+    pub complete : n .visits ≤ c .allowance → (code (back c) ≡ DEEP) ⊎ Ended c (n .visits) (n .furthest) r (back c)
     complete le = of (came c t) refl
       where
-        of : {o : Outcome} → Came c o → back c ≡ o → (code (back c) ≡ DEEP) ⊎ Ended c n r (back c)
+        of : {o : Outcome} → Came c o → back c ≡ o → (code (back c) ≡ DEEP) ⊎ Ended c (n .visits) (n .furthest) r (back c)
         of (effort m) q = absurd (rw m at (claims.other-complete (grammar c) (c .line) (c .allowance) (is-closed (t .sheet)) not-free h le))
         of (deep m) q = inl (ap code q)
-        of (done {r = r′} {s = s} m k) q =
-            let z : (r′ ≡ r) × (made (c .allowance) s ≡ n) = rw m at (claims.other-complete (grammar c) (c .line) (c .allowance) (is-closed (t .sheet)) not-free h le) in
-            inr (rw (q, ← (z .0), ← (z .1)) k)
+        of {o} (done {r = r′} {s = s} m k) q =
+            let z : (r′ ≡ r) × (amounts (c .allowance) s ≡ n) = rw m at (claims.other-complete (grammar c) (c .line) (c .allowance) (is-closed (t .sheet)) not-free h le) in
+            inr (rw (q, ← (z .0)) (subst (λ (a : Amount). Ended c (a .visits) (a .furthest) r′ o) (z .1) k))
 
     -- Unless DEEP comes back, EFFORT does exactly if fewer visits are allowed.
-    pub effort-exactly : code (back c) ≢ DEEP → (code (back c) ≡ EFFORT) ↔ (c .allowance < n)
-    effort-exactly shallow = ((λ e. let few : ¬ (n ≤ c .allowance) = λ le. not-both e (complete le) in omega arith), (λ l. of l (came c t) refl))
+    pub effort-exactly : code (back c) ≢ DEEP → (code (back c) ≡ EFFORT) ↔ (c .allowance < n .visits)
+    effort-exactly shallow = ((λ e. let few : ¬ (n .visits ≤ c .allowance) = λ le. not-both e (complete le) in omega arith), (λ l. of l (came c t) refl))
       where
-        not-both : code (back c) ≡ EFFORT → (code (back c) ≡ DEEP) ⊎ Ended c n r (back c) → ⊥
+        not-both : code (back c) ≡ EFFORT → (code (back c) ≡ DEEP) ⊎ Ended c (n .visits) (n .furthest) r (back c) → ⊥
         not-both e (inl d) = omega arith
         not-both e (inr k) = no-effort k e
 
-        of : c .allowance < n → {o : Outcome} → Came c o → back c ≡ o → code (back c) ≡ EFFORT
+        of : c .allowance < n .visits → {o : Outcome} → Came c o → back c ≡ o → code (back c) ≡ EFFORT
         of l (effort m) q = ap code q
         of l (deep m) q = absurd (shallow (ap code q))
         of l (done m k) q = absurd (rw m at (claims.other-short (grammar c) (c .line) (c .allowance) (is-closed (t .sheet)) not-free h l))
 
   -- Document 003's Lemma 2: every accepted table has an answer on every line.
-  pub answered : WellFormed (c .table) → (r : Answer) × (n : ℕ) × Only (grammar c) (c .line) r n
+  pub answered : WellFormed (c .table) → (r : Answer) × (n : Amount) × Only (grammar c) (c .line) r n
   answered w = claims.answered (grammar c) (c .line) (is-closed w) (has-rule w)

@@ -24,7 +24,7 @@ pub check-written : (table : List ℕ) (v : Verdict) → v ≡ checkOf table →
 unfolding checkNumbers
 check-written table v e = ap (λ (w : Verdict). w .code ∷ w .place ∷ []) e
 
-pub read-written : (o : Outcome) (r : Reading) (work room : List ℕ) → Leaves o r work room → LeavesReading o (r .code ∷ r .place ∷ r .matched ∷ r .visits ∷ r .records ∷ []) work room
+pub read-written : (o : Outcome) (r : Reading) (work room : List ℕ) → Leaves o r work room → LeavesReading o (r .code ∷ r .place ∷ r .matched ∷ r .visits ∷ r .records ∷ r .furthest ∷ []) work room
 unfolding readNumbers
 read-written o r work room h = record { written = ap readNumbers (h .returned); working = h .working; stored = h .stored }
 

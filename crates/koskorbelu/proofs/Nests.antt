@@ -7,7 +7,7 @@ use mathlib.Core.Option.{some}
 use lib.ListN.{length}
 use native.Mathlib.Omega.{arith}
 use Rattle.meaning.specs.Grammar.{Node, rule, Grammar, node, rootOf, Below, Closed, Trees, Answer, fail, ok, wrap, Note, noted, look}
-use Rattle.meaning.specs.Rules.{Goal, at, inc, Bounded, Reads}
+use Rattle.meaning.specs.Rules.{Goal, at, inc, Amount, Bounded, Reads}
 use Rattle.meaning.specs.Rules as R
 use Rattle.meaning.proofs.Answers.{trees, never′, found}
 use Rattle.meaning.proofs.Notes.{look-cases}
@@ -54,7 +54,7 @@ module _ (g : Grammar) (line : List ℕ) (good : Closed g) where
   at-rule a x fail h s = tt
   at-rule a x (ok y ts) h s = (h, (omega arith, (s, omega arith)))
 
-  nests : {l : List Note} {p : Goal} {x n : ℕ} {r : Answer} → Bounded g line l p x r n → Held l → Goes p x r
+  nests : {l : List Note} {p : Goal} {x : ℕ} {n : Amount} {r : Answer} → Bounded g line l p x r n → Held l → Goes p x r
   unfolding Nested
   nests R.empty1 f = λ k. omega arith
   nests (R.char1 q) f = λ k. omega arith
@@ -84,7 +84,7 @@ module _ (g : Grammar) (line : List ℕ) (good : Closed g) where
   one-tree a x fail h = never′ h
   one-tree a x (ok y us) h = rw (← trees h)
 
-  single : {l : List Note} {a x n : ℕ} {r : Answer} → Bounded g line l (at (rule a)) x r n → {e : ℕ} {ts : Trees} → r ≡ ok e ts → numberOf ts ≡ 1
+  single : {l : List Note} {a x : ℕ} {n : Amount} {r : Answer} → Bounded g line l (at (rule a)) x r n → {e : ℕ} {ts : Trees} → r ≡ ok e ts → numberOf ts ≡ 1
   single (R.lvar1 {a = a} {x = x} {r = r} q h j) e = one-tree a x r e
   single (R.lvar2 q h) e = never′ e
   single (R.lvar3 {a = a} {x = x} {r = r} q) e = one-tree a x r e
@@ -95,7 +95,7 @@ module _ (g : Grammar) (line : List ℕ) (good : Closed g) where
     pub nested : Nested rules 0 e ts
     pub inside : e ≤ length line
 
-  pub reading-nests : 0 < rules → {e n : ℕ} {ts : Trees} → Reads g line (ok e ts) n → Whole e ts
+  pub reading-nests : 0 < rules → {e : ℕ} {n : Amount} {ts : Trees} → Reads g line (ok e ts) n → Whole e ts
   unfolding look
   reading-nests h d =
       record {

@@ -5,7 +5,7 @@ use Prim.Native.Nat.{ℕ, _<_}
 use native.Mathlib.Omega.{arith}
 use lib.ListN.{length}
 use Rattle.meaning.specs.Grammar.{rule, rep, node, Closed, Answer}
-use Rattle.meaning.specs.Rules.{Plain, Reads}
+use Rattle.meaning.specs.Rules.{Plain, Amount, Reads}
 use Rattle.meaning.specs.Report.{Consuming}
 use Rattle.meaning.proofs.Repeating.{Consumes, consumes, WithoutRep3, PlainWithoutRep3, reads-without-rep3, plain-reads-without-rep3}
 use Rattle.layout.specs.Table.{nodesOf, grammarOf}
@@ -28,7 +28,7 @@ module _ (t : List ℕ) (w : WellFormed t) (line : List ℕ) where
   repetition-consumes i a h e = consumes (grammarOf t) line consuming i a (rw (node-count t) h) e
 
   -- No reading uses rep.3, by the bounded rules or by the plain ones.
-  pub no-rep3 : {r : Answer} {n : ℕ} (h : Reads (grammarOf t) line r n) → WithoutRep3 (grammarOf t) line (h .rules)
+  pub no-rep3 : {r : Answer} {n : Amount} (h : Reads (grammarOf t) line r n) → WithoutRep3 (grammarOf t) line (h .rules)
   no-rep3 h = reads-without-rep3 (grammarOf t) line is-closed consuming has-rule h
 
   pub plain-no-rep3 : {r : Answer} (d : Plain (grammarOf t) line (rule 0) 0 r) → PlainWithoutRep3 (grammarOf t) line d

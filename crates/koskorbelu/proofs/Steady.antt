@@ -8,18 +8,15 @@ use mathlib.Core.List.{List, []}
 use mathlib.Core.Option.{Option, none, some}
 use lib.Dec.{ltb, eqb}
 use Rattle.meaning.specs.Grammar.{Node, empty, range, rule, seq, choice, not, rep, Grammar, node, rootOf, Trees, Answer, fail, ok, Note, noted, look}
-use Rattle.meaning.specs.Reading.{State, Run, Visit, after, joined, second, otherwise, denied, repeatFrom, repeated, wrapped, apply, longer, attempted, grow, firstAttempt, useLive, keep}
+use Rattle.meaning.specs.Reading.{State, starting, spent as leaving, asked, Run, Visit, after, joined, second, otherwise, denied, repeatFrom, repeated, wrapped, apply, longer, attempted, grow, firstAttempt, useLive, keep}
 use Rattle.meaning.specs.Reading.{counted, useRule, recall, visited, visit, readBy}
-
-abbrev pub having : ℕ → List Note → State
-having left kept = record { left = left; kept = kept }
 
 -- F came from s to t in so many visits; with any number to spare it makes as many and ends alike, with that number left.
 pub record Made (F : State → Run) (least : ℕ) (s t : State) (end : State → Run) (spare : ℕ) : Type 0 where
   pub count : ℕ
   pub some : least ≤ count
   pub spent : s .left ≡ count + t .left
-  pub always : (j : ℕ) → spare ≤ j → F (having (count + j) (s .kept)) ≡ end (having j (t .kept))
+  pub always : (j : ℕ) → spare ≤ j → F (leaving (count + j) s) ≡ end (leaving j t)
 
 -- Refused for depth there was a visit to spare, or it would have been refused for effort.
 abbrev pub Fact : (State → Run) → ℕ → State → Run → Type 0
@@ -62,6 +59,9 @@ then F K least hF hK s = by (F s) (hF s)
 -- A run that is done at once.
 at-once : (r : Answer) → Steady 0 (Run.done r)
 at-once r s = record { count = 0; some = omega arith; spent = omega arith; always = λ j l. rw (zero-add j) }
+
+of-range : (x : ℕ) (r : Answer) → Steady 0 (λ s. Run.done r (asked x s))
+of-range x r s = record { count = 0; some = omega arith; spent = omega arith; always = λ j l. rw (zero-add j) }
 
 of-wrapped : (a x : ℕ) (r : Answer) → Steady 0 (wrapped a x r)
 unfolding wrapped
@@ -109,7 +109,7 @@ module _ (line : List ℕ) (v u : Visit) (hv : (i x : ℕ) → Steady 0 (v i x))
   of-apply : (i x : ℕ) (p : Node) → Steady 0 (λ s. apply line v u i x s p)
   unfolding apply
   of-apply i x empty = at-once _
-  of-apply i x (range lo hi) = at-once _
+  of-apply i x (range lo hi) = of-range x _
   of-apply i x (rule a) = hu a x
   of-apply i x (seq a b) = then (v a x) (second v b) 0 (hv a x) (of-second b)
   of-apply i x (choice a b) = then (v a x) (otherwise v b x) 0 (hv a x) (of-otherwise b x)
@@ -122,7 +122,7 @@ module _ (v : Answer → State → Run) (x : ℕ) (hv : (r : Answer) → Steady 
   record Grown (e : ℕ) (ts : Trees) (s t : State) (end : State → Run) (spare : ℕ) : Type 0 where
     count : ℕ
     spent : s .left ≡ count + t .left
-    always : (j f : ℕ) → spare ≤ j → count + j ≤ f → grow f v x e ts (having (count + j) (s .kept)) ≡ end (having j (t .kept))
+    always : (j f : ℕ) → spare ≤ j → count + j ≤ f → grow f v x e ts (leaving (count + j) s) ≡ end (leaving j t)
 
   abbrev GrownFact : ℕ → Trees → State → Run → Type 0
   GrownFact e ts s (Run.effort p t) = Unit {0}
@@ -135,9 +135,9 @@ module _ (v : Answer → State → Run) (x : ℕ) (hv : (r : Answer) → Steady 
   unfolding grow after
   stops e ts s t r h stop = let n = h .some in record { count = h .count; spent = h .spent; always = λ j f l m. again j f (omega arith) }
     where
-      again : (j f : ℕ) → 1 ≤ f → grow f v x e ts (having (h .count + j) (s .kept)) ≡ Run.done (ok e ts) (having j (t .kept))
+      again : (j f : ℕ) → 1 ≤ f → grow f v x e ts (leaving (h .count + j) s) ≡ Run.done (ok e ts) (leaving j t)
       again j zero m = absurd (omega arith)
-      again j (suc f) m = rw (h .always j (omega arith)) (stop (grow f v x) (having j (t .kept)))
+      again j (suc f) m = rw (h .always j (omega arith)) (stop (grow f v x) (leaving j t))
 
   goes-on : (e : ℕ) (ts : Trees) (s t u : State) (e′ : ℕ) (ts′ : Trees) (end : State → Run) (spare : ℕ) → Made (v (ok e ts)) 1 s t (Run.done (ok e′ ts′)) 0
       → ltb e e′ ≡ true → Grown e′ ts′ t u end spare → Grown e ts s u end spare
@@ -148,7 +148,7 @@ module _ (v : Answer → State → Run) (x : ℕ) (hv : (r : Answer) → Steady 
       let sk = k .spent in
       record { count = h .count + k .count; spent = omega arith; always = again }
     where
-      again : (j f : ℕ) → spare ≤ j → h .count + k .count + j ≤ f → grow f v x e ts (having (h .count + k .count + j) (s .kept)) ≡ end (having j (u .kept))
+      again : (j f : ℕ) → spare ≤ j → h .count + k .count + j ≤ f → grow f v x e ts (leaving (h .count + k .count + j) s) ≡ end (leaving j u)
       again j zero l m = let n = h .some in absurd (omega arith)
       again j (suc f) l m =
           let n = h .some in
@@ -158,7 +158,7 @@ module _ (v : Answer → State → Run) (x : ℕ) (hv : (r : Answer) → Steady 
   unfolding grow after
   refused e ts s t p h = record { count = h .count; spent = h .spent; always = again }
     where
-      again : (j f : ℕ) → 1 ≤ j → h .count + j ≤ f → grow f v x e ts (having (h .count + j) (s .kept)) ≡ Run.deep p (having j (t .kept))
+      again : (j f : ℕ) → 1 ≤ j → h .count + j ≤ f → grow f v x e ts (leaving (h .count + j) s) ≡ Run.deep p (leaving j t)
       again j zero l m = absurd (omega arith)
       again j (suc f) l m = rw (h .always j l)
 
@@ -208,26 +208,26 @@ of-counted : (x : ℕ) (K : State → Run) → Steady 0 K → Steady 1 (λ s. co
 unfolding counted
 of-counted x K h s = by (s .left) refl
   where
-    one-more : (l least spare : ℕ) (t : State) (end : State → Run) → least ≤ 1 → s .left ≡ suc l → Made K 0 (having l (s .kept)) t end spare
+    one-more : (l least spare : ℕ) (t : State) (end : State → Run) → least ≤ 1 → s .left ≡ suc l → Made K 0 (leaving l s) t end spare
         → Made (λ s. counted (s .left) x s K) least s t end spare
     one-more l least spare t end le e k =
         let n = k .spent in
         record { count = suc (k .count); some = omega arith; spent = omega arith; always = λ j m. rw (suc-add (k .count) j) (k .always j m) }
 
-    on : (l : ℕ) → s .left ≡ suc l → (m : Run) → Fact K 0 (having l (s .kept)) m → Fact (λ s. counted (s .left) x s K) 1 s m
+    on : (l : ℕ) → s .left ≡ suc l → (m : Run) → Fact K 0 (leaving l s) m → Fact (λ s. counted (s .left) x s K) 1 s m
     on l e (Run.effort p t) k = tt
     on l e (Run.deep p t) k = one-more l 0 1 t (Run.deep p) (omega arith) e k
     on l e (Run.done r t) k = one-more l 1 0 t (Run.done r) (omega arith) e k
 
     by : (n : ℕ) → s .left ≡ n → Fact (λ s. counted (s .left) x s K) 1 s (counted n x s K)
     by zero e = tt
-    by (suc l) e = on l e (K (having l (s .kept))) (h (having l (s .kept)))
+    by (suc l) e = on l e (K (leaving l s)) (h (leaving l s))
 
 too-deep : (x : ℕ) → Steady 1 (λ s. counted (s .left) x s (λ t. Run.deep x s))
 unfolding counted
 too-deep x s = by (s .left)
   where
-    again : (j : ℕ) → 1 ≤ j → counted j x (having j (s .kept)) (λ t. Run.deep x (having j (s .kept))) ≡ Run.deep x (having j (s .kept))
+    again : (j : ℕ) → 1 ≤ j → counted j x (leaving j s) (λ t. Run.deep x (leaving j s)) ≡ Run.deep x (leaving j s)
     again zero l = absurd (omega arith)
     again (suc j) l = refl
 
@@ -271,30 +271,30 @@ module _ (g : Grammar) (line : List ℕ) where
 
   -- ---- The reading.
   module _ (free : Bool) where
-    -- In n visits it ends so, whatever number is to spare.
-    abbrev pub Always : (n spare : ℕ) → (State → Run) → Type 0
-    Always n spare end = (j : ℕ) → spare ≤ j → (u : State) × (u .left ≡ j) × (readBy g line free (n + j) ≡ end u)
+    -- In n visits it ends so, with f as the furthest position, whatever number is to spare.
+    abbrev pub Always : (n f spare : ℕ) → (State → Run) → Type 0
+    Always n f spare end = (j : ℕ) → spare ≤ j → (u : State) × (u .left ≡ j) × (u .furthest ≡ f) × (readBy g line free (n + j) ≡ end u)
 
-    always : {a spare : ℕ} {t : State} {end : State → Run} → Made (useRule g line free (visit g line free 512) [] 0 0) 0 (having a []) t end spare
-        → (n : ℕ) × (a ≡ n + t .left) × Always n spare end
+    always : {a spare : ℕ} {t : State} {end : State → Run} → Made (useRule g line free (visit g line free 512) [] 0 0) 0 (starting a) t end spare
+        → (n : ℕ) × (a ≡ n + t .left) × Always n (t .furthest) spare end
     unfolding readBy
-    always {t = t} h = (h .count, h .spent, λ j l. (having j (t .kept), refl, h .always j l))
+    always {t = t} h = (h .count, h .spent, λ j l. (leaving j t, refl, refl, h .always j l))
 
-    fact : (a : ℕ) (m : Run) → readBy g line free a ≡ m → Fact (useRule g line free (visit g line free 512) [] 0 0) 0 (having a []) m
+    fact : (a : ℕ) (m : Run) → readBy g line free a ≡ m → Fact (useRule g line free (visit g line free 512) [] 0 0) 0 (starting a) m
     unfolding readBy
-    fact a m e = subst (Fact (useRule g line free (visit g line free 512) [] 0 0) 0 (having a [])) e (of-use (visit g line free 512) (of-visit free 512) free [] 0 0 (having a []))
+    fact a m e = subst (Fact (useRule g line free (visit g line free 512) [] 0 0) 0 (starting a)) e (of-use (visit g line free 512) (of-visit free 512) free [] 0 0 (starting a))
 
-    pub done-always : (a : ℕ) (r : Answer) (t : State) → readBy g line free a ≡ Run.done r t → (n : ℕ) × (a ≡ n + t .left) × Always n 0 (Run.done r)
+    pub done-always : (a : ℕ) (r : Answer) (t : State) → readBy g line free a ≡ Run.done r t → (n : ℕ) × (a ≡ n + t .left) × Always n (t .furthest) 0 (Run.done r)
     done-always a r t e = always (fact a (Run.done r t) e)
 
-    pub deep-always : (a p : ℕ) (t : State) → readBy g line free a ≡ Run.deep p t → (n : ℕ) × (a ≡ n + t .left) × Always n 1 (Run.deep p)
+    pub deep-always : (a p : ℕ) (t : State) → readBy g line free a ≡ Run.deep p t → (n : ℕ) × (a ≡ n + t .left) × Always n (t .furthest) 1 (Run.deep p)
     deep-always a p t e = always (fact a (Run.deep p t) e)
 
-    pub larger : (a n spare : ℕ) (end : State → Run) → Always n spare end → n + spare ≤ a → (u : State) × (u .left ≡ a - n) × (readBy g line free a ≡ end u)
-    larger a n spare end h l =
+    pub larger : (a n f spare : ℕ) (end : State → Run) → Always n f spare end → n + spare ≤ a → (u : State) × (u .left ≡ a - n) × (u .furthest ≡ f) × (readBy g line free a ≡ end u)
+    larger a n f spare end h l =
         let e : a ≡ n + (a - n) = omega arith in
         let k = h (a - n) (omega arith) in
-        (k .0, k .1, ap (readBy g line free) e ∙ k .2)
+        (k .0, k .1, k .2, ap (readBy g line free) e ∙ k .3)
 
     -- With fewer visits than it made, a reading that was done is refused for effort.
     pub fewer : (a b : ℕ) (r : Answer) (t : State) → readBy g line free a ≡ Run.done r t → b + t .left < a → (p : ℕ) × (u : State) × (readBy g line free b ≡ Run.effort p u)
@@ -305,15 +305,15 @@ module _ (g : Grammar) (line : List ℕ) where
         by (Run.deep p u) q =
             let h = deep-always b p u q in
             let s = h .1 in
-            let k = larger a (h .0) 1 (Run.deep p) (h .2) (omega arith) in
-            let d : Run.deep p (k .0) ≡ Run.done r t = sym (k .2) ∙ e in
+            let k = larger a (h .0) (u .furthest) 1 (Run.deep p) (h .2) (omega arith) in
+            let d : Run.deep p (k .0) ≡ Run.done r t = sym (k .3) ∙ e in
             let z : _≡_ {A = ℕ} 0 1 = cc in
             absurd (omega arith)
         by (Run.done r′ u) q =
             let h = done-always b r′ u q in
             let s = h .1 in
-            let k = larger a (h .0) 0 (Run.done r′) (h .2) (omega arith) in
-            let d : Run.done r′ (k .0) ≡ Run.done r t = sym (k .2) ∙ e in
+            let k = larger a (h .0) (u .furthest) 0 (Run.done r′) (h .2) (omega arith) in
+            let d : Run.done r′ (k .0) ≡ Run.done r t = sym (k .3) ∙ e in
             let z : k .0 ≡ t = cc in
             let w : t .left ≡ a - h .0 = ap (λ (v : State). v .left) (sym z) ∙ k .1 in
             absurd (omega arith)

@@ -7,7 +7,7 @@ use native.Mathlib.Omega.{arith}
 use lib.ListN.{length, take}
 use lib.Seq.{take-at}
 use Rattle.meaning.specs.Grammar.{Trees, no-trees, Answer, ok}
-use Rattle.meaning.specs.Rules.{Reads}
+use Rattle.meaning.specs.Rules.{Amount, Reads}
 use Rattle.layout.specs.Table.{rulesOf}
 use Rattle.layout.specs.Layout.{READ}
 use Rattle.layout.proofs.Laying.{rule-count}
@@ -37,7 +37,7 @@ module _ (c : Call) where
     few : recordsOf ts ≤ 1000
     bytes : front o ≡ storedOf positionWidth ts
 
-  of-read : {n : ℕ} {r : Answer} {o : Outcome} → Ended c n r o → code o ≡ READ → Tree o r
+  of-read : {n f : ℕ} {r : Answer} {o : Outcome} → Ended c n f r o → code o ≡ READ → Tree o r
   of-read fails e = absurd (omega arith)
   of-read (rest h) e = absurd (omega arith)
   of-read (records n h) e = absurd (omega arith)
@@ -57,8 +57,8 @@ module _ (c : Call) where
     the-tree : Tree (back c) (by-rules .answer)
     the-tree = of-read (by-rules .said) e
 
-    reading : Reads (grammar c) (c .line) (ok (back c .reading .matched) (the-tree .ts)) (by-rules .count)
-    reading = subst (λ (r : Answer). Reads (grammar c) (c .line) r (by-rules .count)) (the-tree .answer) (by-rules .rules)
+    reading : Reads (grammar c) (c .line) (ok (back c .reading .matched) (the-tree .ts)) (by-rules .amount)
+    reading = subst (λ (r : Answer). Reads (grammar c) (c .line) r (by-rules .amount)) (the-tree .answer) (by-rules .rules)
 
     whole : Whole (grammar c) (c .line) (is-closed c (taken .sheet)) (back c .reading .matched) (the-tree .ts)
     whole = reading-nests (grammar c) (c .line) (is-closed c (taken .sheet)) (has-rule c (taken .sheet)) reading
@@ -84,8 +84,8 @@ module _ (c : Call) where
         (written positionWidth (rulesOf (c .table)) (length (c .line)) (the-tree .ts) (omega arith) few-rules short-line few-bytes (whole .single) nested)
 
     -- The tree in the room.
-    pub read-back : (n : ℕ) × Reads (grammar c) (c .line) (ok (back c .reading .matched) (treeOf positionWidth (front (back c)))) n
+    pub read-back : (n : Amount) × Reads (grammar c) (c .line) (ok (back c .reading .matched) (treeOf positionWidth (front (back c)))) n
     read-back =
         let fits = nested-fits positionWidth (rulesOf (c .table)) 0 (length (c .line)) (the-tree .ts) few-rules short-line (omega (arith, the-tree .few)) nested in
         let t : treeOf positionWidth (front (back c)) ≡ the-tree .ts = ap (treeOf positionWidth) (the-tree .bytes) ∙ R.read-back positionWidth (the-tree .ts) few-bytes (whole .single) fits in
-        (by-rules .count, rw t reading)
+        (by-rules .amount, rw t reading)

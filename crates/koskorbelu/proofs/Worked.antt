@@ -1,4 +1,4 @@
--- 01's worked lines that are marked P, and two of a sheet with a rule that nobody uses: a single table, under one claim, by computation. The claim is of every working room and every room that is large enough.
+-- 01's worked lines that are marked P, two of a sheet with a rule that nobody uses, and the others of the program's example: a single table, under one claim, by computation. The claim is of every working room and every room that is large enough.
 use mathlib.Core.Path.{_≡_, refl, ap, subst, _∙_}
 use mathlib.Core.Bool.{Bool, true, false, _&&_, cond, and-eq-true-iff}
 use mathlib.Core.List.{List, [], _∷_, _++_, map, head-eq-of-cons-eq, tail-eq-of-cons-eq}
@@ -26,7 +26,7 @@ use Rattle.reader.specs.Answer.{EFFORT, DEEP, FAIL, REST, RECORDS, mostRecords,
 use Rattle.koskorbelu.specs.Demands.{Call, back, run, needed, Taken}
 use Rattle.koskorbelu.proofs.Demand1.{by-run}
 
--- A worked line: what is asked and lent, the five numbers that come back, and the bytes stored.
+-- A worked line: what is asked and lent, the six numbers that come back, and the bytes stored.
 pub record Line : Type 0 where
   pub whole : Bool
   pub table : List ℕ
@@ -87,30 +87,32 @@ case whole table line allowance numbers stored = record { whole = whole; table =
 
 -- B on `1,5`.
 abbrev pub commaLine : Line
-commaLine = case true tableB (49 ∷ 44 ∷ 53 ∷ []) 2500 (numbers READ 0 3 8 3) (1 ∷ 0 ∷ 20 ∷ 0 ∷ 3 ∷ 1 ∷ 0 ∷ 1 ∷ 0 ∷ 0 ∷ 1 ∷ 2 ∷ 3 ∷ 0 ∷ 0 ∷ 0 ∷ 0 ∷ 3 ∷ 0 ∷ 2 ∷ [])
+commaLine = case true tableB (49 ∷ 44 ∷ 53 ∷ []) 2500 (numbers READ 0 3 8 3 2) (1 ∷ 0 ∷ 20 ∷ 0 ∷ 3 ∷ 1 ∷ 0 ∷ 1 ∷ 0 ∷ 0 ∷ 1 ∷ 2 ∷ 3 ∷ 0 ∷ 0 ∷ 0 ∷ 0 ∷ 3 ∷ 0 ∷ 2 ∷ [])
 
--- Bytes of `7+2`, `7`, `+`, `7+`; of `1,5`, `1`; of `a`. A line that 01 gives no allowance has the program's, 2,500.
--- The numbers are code, place, matched, visits, records.
+-- Bytes of `7+2`, `7`, `+`, `7+`; of `1,5`, `1`, `1.5`, `,5`; of `a`. A line that 01 gives no allowance has the program's, 2,500.
+-- The numbers are code, place, matched, visits, records, furthest.
 unfoldable pub worked : List Line
 worked =
-    case true tableA (55 ∷ 43 ∷ 50 ∷ []) 2500 (numbers READ 0 3 22 4)
+    case true tableA (55 ∷ 43 ∷ 50 ∷ []) 2500 (numbers READ 0 3 22 4 3)
     (1 ∷ 0 ∷ 25 ∷ 0 ∷ 4 ∷ 1 ∷ 0 ∷ 1 ∷ 0 ∷ 0 ∷ 0 ∷ 0 ∷ 1 ∷ 0 ∷ 1 ∷ 1 ∷ 2 ∷ 3 ∷ 0 ∷ 0 ∷ 0 ∷ 0 ∷ 3 ∷ 0 ∷ 2 ∷ [])
-    ∷ case true tableA (55 ∷ 43 ∷ 50 ∷ []) 22 (numbers READ 0 3 22 4)
+    ∷ case true tableA (55 ∷ 43 ∷ 50 ∷ []) 22 (numbers READ 0 3 22 4 3)
     (1 ∷ 0 ∷ 25 ∷ 0 ∷ 4 ∷ 1 ∷ 0 ∷ 1 ∷ 0 ∷ 0 ∷ 0 ∷ 0 ∷ 1 ∷ 0 ∷ 1 ∷ 1 ∷ 2 ∷ 3 ∷ 0 ∷ 0 ∷ 0 ∷ 0 ∷ 3 ∷ 0 ∷ 2 ∷ [])
-    ∷ case true tableA (55 ∷ 43 ∷ 50 ∷ []) 21 (numbers EFFORT 0 0 21 0) []
-    ∷ case true tableA (55 ∷ []) 2500 (numbers READ 0 1 14 2) (1 ∷ 0 ∷ 15 ∷ 0 ∷ 2 ∷ 1 ∷ 0 ∷ 1 ∷ 0 ∷ 0 ∷ 0 ∷ 0 ∷ 1 ∷ 0 ∷ 1 ∷ [])
-    ∷ case true tableA [] 2500 (numbers FAIL 0 0 5 0) []
-    ∷ case true tableA (43 ∷ []) 2500 (numbers FAIL 0 0 5 0) []
-    ∷ case false tableA (55 ∷ 43 ∷ []) 2500 (numbers READ 0 1 16 2) (1 ∷ 0 ∷ 15 ∷ 0 ∷ 2 ∷ 1 ∷ 0 ∷ 1 ∷ 0 ∷ 0 ∷ 0 ∷ 0 ∷ 1 ∷ 0 ∷ 1 ∷ [])
-    ∷ case true tableA (55 ∷ 43 ∷ []) 2500 (numbers REST 1 1 16 0) []
+    ∷ case true tableA (55 ∷ 43 ∷ 50 ∷ []) 21 (numbers EFFORT 0 0 21 0 3) []
+    ∷ case true tableA (55 ∷ []) 2500 (numbers READ 0 1 14 2 1) (1 ∷ 0 ∷ 15 ∷ 0 ∷ 2 ∷ 1 ∷ 0 ∷ 1 ∷ 0 ∷ 0 ∷ 0 ∷ 0 ∷ 1 ∷ 0 ∷ 1 ∷ [])
+    ∷ case true tableA [] 2500 (numbers FAIL 0 0 5 0 0) []
+    ∷ case true tableA (43 ∷ []) 2500 (numbers FAIL 0 0 5 0 0) []
+    ∷ case false tableA (55 ∷ 43 ∷ []) 2500 (numbers READ 0 1 16 2 2) (1 ∷ 0 ∷ 15 ∷ 0 ∷ 2 ∷ 1 ∷ 0 ∷ 1 ∷ 0 ∷ 0 ∷ 0 ∷ 0 ∷ 1 ∷ 0 ∷ 1 ∷ [])
+    ∷ case true tableA (55 ∷ 43 ∷ []) 2500 (numbers REST 1 1 16 0 2) []
     ∷ commaLine
-    ∷ case true tableB (49 ∷ []) 2500 (numbers READ 0 1 7 2) (1 ∷ 0 ∷ 15 ∷ 0 ∷ 2 ∷ 1 ∷ 0 ∷ 1 ∷ 0 ∷ 0 ∷ 0 ∷ 0 ∷ 1 ∷ 0 ∷ 1 ∷ [])
-    ∷ case true tableUnused (49 ∷ 44 ∷ 53 ∷ []) 2500 (numbers READ 0 3 8 3) (1 ∷ 0 ∷ 20 ∷ 0 ∷ 3 ∷ 1 ∷ 0 ∷ 1 ∷ 0 ∷ 0 ∷ 1 ∷ 2 ∷ 3 ∷ 0 ∷ 0 ∷ 0 ∷ 0 ∷ 3 ∷ 0 ∷ 2 ∷ [])
-    ∷ case true tableUnused (49 ∷ []) 2500 (numbers READ 0 1 7 2) (1 ∷ 0 ∷ 15 ∷ 0 ∷ 2 ∷ 1 ∷ 0 ∷ 1 ∷ 0 ∷ 0 ∷ 0 ∷ 0 ∷ 1 ∷ 0 ∷ 1 ∷ [])
-    ∷ case true turned (49 ∷ 44 ∷ 53 ∷ []) 2500 (numbers REST 1 1 3 0) []
-    ∷ case true denied (97 ∷ []) 2500 (numbers READ 0 1 7 1) (1 ∷ 0 ∷ 10 ∷ 0 ∷ 1 ∷ 0 ∷ 0 ∷ 1 ∷ 0 ∷ 0 ∷ [])
-    ∷ case true nine [] 2500 (numbers READ 0 0 25 511) (1 ∷ 10 ∷ 0 ∷ 1 ∷ 255 ∷ twice 8 0)
-    ∷ case true ten [] 2500 (numbers RECORDS 0 0 28 1001) []
+    ∷ case true tableB (49 ∷ []) 2500 (numbers READ 0 1 7 2 1) (1 ∷ 0 ∷ 15 ∷ 0 ∷ 2 ∷ 1 ∷ 0 ∷ 1 ∷ 0 ∷ 0 ∷ 0 ∷ 0 ∷ 1 ∷ 0 ∷ 1 ∷ [])
+    ∷ case true tableB (49 ∷ 46 ∷ 53 ∷ []) 2500 (numbers REST 1 1 7 0 1) []
+    ∷ case true tableB (44 ∷ 53 ∷ []) 2500 (numbers FAIL 0 0 5 0 0) []
+    ∷ case true tableUnused (49 ∷ 44 ∷ 53 ∷ []) 2500 (numbers READ 0 3 8 3 2) (1 ∷ 0 ∷ 20 ∷ 0 ∷ 3 ∷ 1 ∷ 0 ∷ 1 ∷ 0 ∷ 0 ∷ 1 ∷ 2 ∷ 3 ∷ 0 ∷ 0 ∷ 0 ∷ 0 ∷ 3 ∷ 0 ∷ 2 ∷ [])
+    ∷ case true tableUnused (49 ∷ []) 2500 (numbers READ 0 1 7 2 1) (1 ∷ 0 ∷ 15 ∷ 0 ∷ 2 ∷ 1 ∷ 0 ∷ 1 ∷ 0 ∷ 0 ∷ 0 ∷ 0 ∷ 1 ∷ 0 ∷ 1 ∷ [])
+    ∷ case true turned (49 ∷ 44 ∷ 53 ∷ []) 2500 (numbers REST 1 1 3 0 0) []
+    ∷ case true denied (97 ∷ []) 2500 (numbers READ 0 1 7 1 0) (1 ∷ 0 ∷ 10 ∷ 0 ∷ 1 ∷ 0 ∷ 0 ∷ 1 ∷ 0 ∷ 0 ∷ [])
+    ∷ case true nine [] 2500 (numbers READ 0 0 25 511 0) (1 ∷ 10 ∷ 0 ∷ 1 ∷ 255 ∷ twice 8 0)
+    ∷ case true ten [] 2500 (numbers RECORDS 0 0 28 1001 0) []
     ∷ []
 
 -- ---- The claim, from what computes.
@@ -122,25 +124,25 @@ pub record Stored : Type 0 where
 abbrev only : Reading → Stored
 only r = record { numbers = r; bytes = [] }
 
-unfoldable matched : (whole : Bool) (long e : ℕ) → Trees → (visits : ℕ) → Stored
-matched whole long e ts visits =
-    cond (whole && ltb e long) (only (numbers REST e e visits 0))
-    (cond (ltb mostRecords (recordsOf ts)) (only (numbers RECORDS e e visits 1001)) (record { numbers = numbers READ 0 e visits (recordsOf ts); bytes = storedOf positionWidth ts }))
+unfoldable matched : (whole : Bool) (long e : ℕ) → Trees → (visits furthest : ℕ) → Stored
+matched whole long e ts visits furthest =
+    cond (whole && ltb e long) (only (numbers REST e e visits 0 furthest))
+    (cond (ltb mostRecords (recordsOf ts)) (only (numbers RECORDS e e visits 1001 furthest)) (record { numbers = numbers READ 0 e visits (recordsOf ts) furthest; bytes = storedOf positionWidth ts }))
 
 unfoldable roomy : (whole : Bool) (long allowance : ℕ) → Run → Stored
-roomy whole long allowance (Run.effort p s) = only (numbers EFFORT p 0 (made allowance s) 0)
-roomy whole long allowance (Run.deep p s) = only (numbers DEEP p 0 (made allowance s) 0)
-roomy whole long allowance (Run.done fail s) = only (numbers FAIL 0 0 (made allowance s) 0)
-roomy whole long allowance (Run.done (ok e ts) s) = matched whole long e ts (made allowance s)
+roomy whole long allowance (Run.effort p s) = only (numbers EFFORT p 0 (made allowance s) 0 (s .furthest))
+roomy whole long allowance (Run.deep p s) = only (numbers DEEP p 0 (made allowance s) 0 (s .furthest))
+roomy whole long allowance (Run.done fail s) = only (numbers FAIL 0 0 (made allowance s) 0 (s .furthest))
+roomy whole long allowance (Run.done (ok e ts) s) = matched whole long e ts (made allowance s) (s .furthest)
 
 -- An outcome has these numbers, and leaves these working numbers and these bytes at the room's front.
 abbrev Same : (work room : List ℕ) → Stored → Outcome → Type 0
 Same work room s o = length (s .bytes) ≤ length room → o ≡ record { reading = s .numbers; work = work; room = s .bytes ++ drop (length (s .bytes)) room }
 
 module _ (whole : Bool) (long : ℕ) (work room : List ℕ) where
-  of-match : (e : ℕ) (ts : Trees) (visits : ℕ) → Same work room (matched whole long e ts visits) (matchOutcome whole long e ts visits work room)
+  of-match : (e : ℕ) (ts : Trees) (visits furthest : ℕ) → Same work room (matched whole long e ts visits furthest) (matchOutcome whole long e ts visits furthest work room)
   unfolding matched matchOutcome
-  of-match e ts visits =
+  of-match e ts visits furthest =
       let l : length (storedOf positionWidth ts) ≡ storedLength positionWidth (recordsOf ts) = length-stored positionWidth ts in
       by-test-twice (Same work room) (whole && ltb e long) _ _ _ _ (λ h. refl)
       (by-test-twice (Same work room) (ltb mostRecords (recordsOf ts)) _ _ _ _ (λ h. refl) (λ h. rw (le-ltb (length room) (storedLength positionWidth (recordsOf ts)) (omega arith), l)))
@@ -150,7 +152,7 @@ module _ (whole : Bool) (long : ℕ) (work room : List ℕ) where
   of-run allowance (Run.effort p s) h = refl
   of-run allowance (Run.deep p s) h = refl
   of-run allowance (Run.done fail s) h = refl
-  of-run allowance (Run.done (ok e ts) s) h = of-match e ts (made allowance s) h
+  of-run allowance (Run.done (ok e ts) s) h = of-match e ts (made allowance s) (s .furthest) h
 
 -- What computes of a line: the check's code, whether the line and the allowance are in range, and what comes back.
 record Computed : Type 0 where

@@ -6,7 +6,7 @@ use mathlib.Core.List.{List, _++_}
 use Prim.Native.Nat.{ℕ, _+_, _<_, _≤_}
 use lib.ListN.{length, drop}
 use Rattle.meaning.specs.Grammar.{Grammar, rule, Trees, Answer, fail, ok}
-use Rattle.meaning.specs.Rules.{Plain, Reads}
+use Rattle.meaning.specs.Rules.{Plain, furthestOf, Amount, Reads}
 use Rattle.meaning.specs.Report.{Free, bound}
 use Rattle.meaning.specs.Reading.{State, made, Run, readBy, read}
 use Rattle.layout.specs.Table.{nodesOf, grammarOf}
@@ -37,6 +37,9 @@ code o = o .reading .code
 abbrev pub visits : Outcome → ℕ
 visits o = o .reading .visits
 
+abbrev pub furthest : Outcome → ℕ
+furthest o = o .reading .furthest
+
 abbrev pub grammar : Call → Grammar
 grammar c = grammarOf (c .table)
 
@@ -53,32 +56,32 @@ abbrev pub away : Call → (code place : ℕ) → Outcome
 away c code place = turnedAway code place (c .work) (c .room)
 
 -- 01: "On READ and from 11 on", which is up to 16, "the first numbers of the working room, as many as the formula says, are zero and the rest as found"; "Only READ writes the room".
-abbrev pub ended : Call → (code place matched visits records : ℕ) → Outcome
-ended c code place matched visits records = record { reading = numbers code place matched visits records; work = cleared (needed c) (c .work); room = c .room }
+abbrev pub ended : Call → (code place matched visits records furthest : ℕ) → Outcome
+ended c code place matched visits records furthest = record { reading = numbers code place matched visits records furthest; work = cleared (needed c) (c .work); room = c .room }
 
 -- 01: "whole-line only: match ends before L".
 abbrev pub EndsBefore : Call → ℕ → Type 0
 EndsBefore c e = (c .whole ≡ true) × (e < length (c .line))
 
--- 01's rows 13 to 16 and 0, in its order: what a call gives where rule 0 answered so, after so many visits.
-pub data Ended (c : Call) (visits : ℕ) : Answer → Outcome → Type 0 where
-  fails : Ended c visits fail (ended c FAIL 0 0 visits 0)
-  rest : {e : ℕ} {ts : Trees} → EndsBefore c e → Ended c visits (ok e ts) (ended c REST e e visits 0)
-  records : {e : ℕ} {ts : Trees} → ¬ EndsBefore c e → mostRecords < recordsOf ts → Ended c visits (ok e ts) (ended c RECORDS e e visits 1001)
+-- 01's rows 13 to 16 and 0, in its order: what a call gives where rule 0 answered so, after so many visits, with the furthest position reached.
+pub data Ended (c : Call) (visits furthest : ℕ) : Answer → Outcome → Type 0 where
+  fails : Ended c visits furthest fail (ended c FAIL 0 0 visits 0 furthest)
+  rest : {e : ℕ} {ts : Trees} → EndsBefore c e → Ended c visits furthest (ok e ts) (ended c REST e e visits 0 furthest)
+  records : {e : ℕ} {ts : Trees} → ¬ EndsBefore c e → mostRecords < recordsOf ts → Ended c visits furthest (ok e ts) (ended c RECORDS e e visits 1001 furthest)
   room : {e : ℕ} {ts : Trees} → ¬ EndsBefore c e → recordsOf ts ≤ mostRecords → length (c .room) < storedLength positionWidth (recordsOf ts)
-      → Ended c visits (ok e ts) (ended c ROOM e e visits (recordsOf ts))
+      → Ended c visits furthest (ok e ts) (ended c ROOM e e visits (recordsOf ts) furthest)
   reads : {e : ℕ} {ts : Trees} → ¬ EndsBefore c e → recordsOf ts ≤ mostRecords → storedLength positionWidth (recordsOf ts) ≤ length (c .room)
-      → Ended c visits (ok e ts) (record {
-        reading = numbers READ 0 e visits (recordsOf ts);
+      → Ended c visits furthest (ok e ts) (record {
+        reading = numbers READ 0 e visits (recordsOf ts) furthest;
         work = cleared (needed c) (c .work);
         room = storedOf positionWidth ts ++ drop (storedLength positionWidth (recordsOf ts)) (c .room);
       })
 
 -- 01's rows 11 to 16 and 0: what a call gives whose line is read.
 pub data Came (c : Call) : Outcome → Type 0 where
-  effort : {p : ℕ} {s : State} → run c ≡ Run.effort p s → Came c (ended c EFFORT p 0 (made (c .allowance) s) 0)
-  deep : {p : ℕ} {s : State} → run c ≡ Run.deep p s → Came c (ended c DEEP p 0 (made (c .allowance) s) 0)
-  done : {r : Answer} {s : State} {o : Outcome} → run c ≡ Run.done r s → Ended c (made (c .allowance) s) r o → Came c o
+  effort : {p : ℕ} {s : State} → run c ≡ Run.effort p s → Came c (ended c EFFORT p 0 (made (c .allowance) s) 0 (s .furthest))
+  deep : {p : ℕ} {s : State} → run c ≡ Run.deep p s → Came c (ended c DEEP p 0 (made (c .allowance) s) 0 (s .furthest))
+  done : {r : Answer} {s : State} {o : Outcome} → run c ≡ Run.done r s → Ended c (made (c .allowance) s) (s .furthest) r o → Came c o
 
 -- No condition of a row before EFFORT holds: the call is not turned away before the line is read.
 pub record Taken (c : Call) : Type 0 where
@@ -87,7 +90,7 @@ pub record Taken (c : Call) : Type 0 where
   pub allowed : (c .allowance ≢ 0) × (c .allowance ≤ mostAllowance)
   pub lent : needed c ≤ length (c .work)
 
--- 01's table of codes, with LOOP between FIELD and LINE: when each is given, with the five numbers and what is then in the working numbers and in the room. A row's
+-- 01's table of codes, with LOOP between FIELD and LINE: when each is given, with the six numbers and what is then in the working numbers and in the room. A row's
 -- condition holds, and no earlier row's does.
 pub data Given (c : Call) : Outcome → Type 0 where
   check : {code place : ℕ} → sheet.Given (c .table) code place → code ≢ READ → Given c (away c code place)
@@ -114,23 +117,26 @@ pub data Answers : ℕ → Type 0 where
 -- Demand 2, of an outcome with such a code: "Unless 01 turns the call away before the line is read, or refuses it for effort or depth, match and tree are those of the
 -- published rules for bounded left recursion (document 003), and the number of visits is the one 01 defines over them."
 pub record Demand2 (c : Call) (o : Outcome) : Type 0 where
-  -- What the rules answer for rule 0 at position 0 with nothing live, in how many visits, and that they answer nothing else.
+  -- What the rules answer for rule 0 at position 0 with nothing live, what that amounts to, and that they answer nothing else.
   pub answer : Answer
-  pub count : ℕ
-  pub rules : Reads (grammar c) (c .line) answer count
-  pub only : (r : Answer) (n : ℕ) → Reads (grammar c) (c .line) r n → (r ≡ answer) × (n ≡ count)
+  pub amount : Amount
+  pub rules : Reads (grammar c) (c .line) answer amount
+  pub only : (r : Answer) (n : Amount) → Reads (grammar c) (c .line) r n → (r ≡ answer) × (n ≡ amount)
   -- The outcome says so.
-  pub said : Ended c (visits o) answer o
+  pub said : Ended c (visits o) (furthest o) answer o
+  -- 02, W-203: "the largest position at which a range node was visited" in that derivation, whatever was kept.
+  pub reached : furthest o ≡ amount .furthest
   -- 01, "All others.": every visit of that derivation.
-  pub others : ¬ Free (grammar c) → visits o ≡ count
+  pub others : ¬ Free (grammar c) → visits o ≡ amount .visits
   -- 01, "Free grammars.": the visits of the reading that keeps answers, whatever number is to spare.
   pub kept : Free (grammar c) → (spare : ℕ) → (s : State) × (s .left ≡ spare) × (readBy (grammar c) (c .line) true (visits o + spare) ≡ Run.done answer s)
 
 -- Demand 3, of a call that is not turned away, with such a sheet and allowance: "For a grammar that 01's report calls free of left recursion, with N nodes, a line of L bytes,
 -- an allowance of at least 2 x N x (L + 1) + 1 and the working room 01 names: never refused for effort, visits at most 2 x N x (L + 1) + 1, and unless too deep, match, failure
--- and tree are those of the plain rules." The visits are those of demand 2.
+-- and tree are those of the plain rules." The visits are those of demand 2; the furthest position is that of the plain derivation.
 pub record Demand3 (c : Call) (o : Outcome) : Type 0 where
   pub never : code o ≢ EFFORT
   pub few : visits o ≤ bound (grammar c) (c .line)
   pub plain : code o ≢ DEEP
-      → (r : Answer) × Plain (grammar c) (c .line) (rule 0) 0 r × ((q : Answer) → Plain (grammar c) (c .line) (rule 0) 0 q → q ≡ r) × Ended c (visits o) r o
+      → (r : Answer) × Plain (grammar c) (c .line) (rule 0) 0 r × ((q : Answer) (d : Plain (grammar c) (c .line) (rule 0) 0 q) → (q ≡ r) × (furthest o ≡ furthestOf d))
+      × Ended c (visits o) (furthest o) r o

@@ -18,9 +18,9 @@ checkNumbers table = checkOf table .code ∷ checkOf table .place ∷ []
 unfoldable pub reportNumbers : Findings → List ℕ
 reportNumbers x = x .code ∷ x .place ∷ x .«may_be_empty» ∷ x .«left_recursive» ∷ x .«how_many» ∷ x .lowest ∷ one (x .free) ∷ []
 
--- 01: "A reading returns code, place, matched, visits, records."
+-- 01: "A reading returns code, place, matched, visits, records." 02, W-203: "Each reading's result gets one more number, furthest".
 unfoldable pub readNumbers : Reading → List ℕ
-readNumbers r = r .code ∷ r .place ∷ r .matched ∷ r .visits ∷ r .records ∷ []
+readNumbers r = r .code ∷ r .place ∷ r .matched ∷ r .visits ∷ r .records ∷ r .furthest ∷ []
 
 -- The answer holds the report on a table.
 pub record LeavesReport (table answer : List ℕ) : Type 0 where

@@ -8,7 +8,7 @@
 // What is proved of it:
 //   proofs/Demand1      every call is answered by exactly one row of 01's table of codes, with that row's numbers and buffers
 //   proofs/Rows         the same row by row: each code comes back exactly when 01 says
-//   proofs/Demand2      match, tree and visits are those of document 003's rules; no call makes more visits than are allowed
+//   proofs/Demand2      match, tree, visits and furthest are those of document 003's rules; no call makes more visits than are allowed
 //   proofs/Demand3      free sheets: the ceiling on visits, never EFFORT with that allowance, and the plain rules' answer
 //   proofs/StandIns     one outcome alone meets demand 2
 //   proofs/Allowance    a line is read alike with every allowance from its visits on, and refused for effort with every smaller one
@@ -48,7 +48,8 @@ pub extern "C" fn kos_report(table: &[u8], answer: &mut [u64; 7])
     ];
 }
 
-// How far the sheet matches from a line's beginning: code, place, matched, visits, records; on READ the tree is stored in the room.
+// How far the sheet matches from a line's beginning: code, place, matched, visits, records, furthest; on READ the tree is
+// stored in the room.
 #[no_mangle]
 pub extern "C" fn kos_read_prefix(
     table: &[u8],
@@ -56,12 +57,12 @@ pub extern "C" fn kos_read_prefix(
     allowance: u64,
     work: &mut [u32],
     room: &mut [u8],
-    answer: &mut [u64; 5],
+    answer: &mut [u64; 6],
 )
     ensures { λ _. ⌜ LeavesReading (readingOf false (now (table .entry)) (now (line .entry)) allowance (now (work .entry)) (now (room .entry))) (now (answer .exit)) (now (work .exit)) (now (room .exit)) ⌝ }
 {
     let r = reader::read_prefix(table, line, allowance, work, room);
-    *answer = [r.code, r.place, r.matched, r.visits, r.records];
+    *answer = [r.code, r.place, r.matched, r.visits, r.records, r.furthest];
 }
 
 // The same, where the whole line has to match.
@@ -72,10 +73,10 @@ pub extern "C" fn kos_read_whole(
     allowance: u64,
     work: &mut [u32],
     room: &mut [u8],
-    answer: &mut [u64; 5],
+    answer: &mut [u64; 6],
 )
     ensures { λ _. ⌜ LeavesReading (readingOf true (now (table .entry)) (now (line .entry)) allowance (now (work .entry)) (now (room .entry))) (now (answer .exit)) (now (work .exit)) (now (room .exit)) ⌝ }
 {
     let r = reader::read_whole(table, line, allowance, work, room);
-    *answer = [r.code, r.place, r.matched, r.visits, r.records];
+    *answer = [r.code, r.place, r.matched, r.visits, r.records, r.furthest];
 }

@@ -10,7 +10,7 @@ use lib.Dec.{ltb, eqb}
 use borrow.Author.Tests.{ltb-true, ltb-false, eqb-true, eqb-false}
 use native.Mathlib.Omega.{arith}
 use Rattle.meaning.specs.Grammar.{Node, empty, range, rule, seq, choice, not, rep, Grammar, node, rootOf, root, Below, Closed, Trees, no-trees, _⋈_, Answer, fail, ok, wrap, fits, Note, noted, look}
-use Rattle.meaning.specs.Rules.{Goal, at, inc, Bounded, Reads}
+use Rattle.meaning.specs.Rules.{Goal, at, inc, Amount, nothing, asking, _⊕_, visiting, Bounded, Reads}
 use Rattle.meaning.specs.Rules as R
 use Rattle.meaning.proofs.Answers.{found}
 use Rattle.meaning.proofs.Conserve.{as-reading}
@@ -26,8 +26,8 @@ module _ (g : Grammar) (line : List ℕ) where
   -- The bounded rules answer.
   pub record Answers (l : List Note) (p : Goal) (x : ℕ) : Type 0 where
     pub answer : Answer
-    pub visits : ℕ
-    pub rules : Bounded g line l p x answer visits
+    pub amount : Amount
+    pub rules : Bounded g line l p x answer amount
 
   -- The rules of s are live at x.
   abbrev LiveAt : List Note → ℕ → List ℕ → Type 0
@@ -54,7 +54,7 @@ module _ (g : Grammar) (line : List ℕ) where
       (past : (y : ℕ) → x < y → y ≤ length line → (l : List Note) → Held g line l → (i : ℕ) → i < length (g .nodes) → Answers l (at (node g i)) y) where
     module _ (l : List Note) (held : Held g line l) where
       -- From where a match ended the next visit starts: at x, or further on.
-      next : (i y : ℕ) {p : Node} {ts : Trees} {n : ℕ} → Bounded g line l (at p) x (ok y ts) n → i < length (g .nodes) → Answers l (at (node g i)) x → (t : Bool) → eqb x y ≡ t
+      next : (i y : ℕ) {p : Node} {ts : Trees} {n : Amount} → Bounded g line l (at p) x (ok y ts) n → i < length (g .nodes) → Answers l (at (node g i)) x → (t : Bool) → eqb x y ≡ t
           → Answers l (at (node g i)) y
       next i y h li k true e = subst (λ z. Answers l (at (node g i)) z) (eqb-true x y e) k
       next i y h li k false e =
@@ -63,55 +63,55 @@ module _ (g : Grammar) (line : List ℕ) where
           let f = s .forward in
           past y (omega arith) (s .inside inside) l held i li
 
-      seq-two : (a b y : ℕ) (ts : Trees) (n : ℕ) → Bounded g line l (at (node g a)) x (ok y ts) n → (r : Answer) (m : ℕ) → Bounded g line l (at (node g b)) y r m → Answers l (at (seq a b)) x
-      seq-two a b y ts n h fail m k = record { answer = fail; visits = suc (n + m); rules = R.con2 h k }
-      seq-two a b y ts n h (ok z us) m k = record { answer = ok z (ts ⋈ us); visits = suc (n + m); rules = R.con1 h k }
+      seq-two : (a b y : ℕ) (ts : Trees) (n : Amount) → Bounded g line l (at (node g a)) x (ok y ts) n → (r : Answer) (m : Amount) → Bounded g line l (at (node g b)) y r m → Answers l (at (seq a b)) x
+      seq-two a b y ts n h fail m k = record { answer = fail; amount = visiting (n ⊕ m); rules = R.con2 h k }
+      seq-two a b y ts n h (ok z us) m k = record { answer = ok z (ts ⋈ us); amount = visiting (n ⊕ m); rules = R.con1 h k }
 
-      seq-one : (a b : ℕ) → b < length (g .nodes) → Answers l (at (node g b)) x → (r : Answer) (n : ℕ) → Bounded g line l (at (node g a)) x r n → Answers l (at (seq a b)) x
-      seq-one a b lb k fail n h = record { answer = fail; visits = suc n; rules = R.con3 h }
-      seq-one a b lb k (ok y ts) n h = let j = next b y h lb k (eqb x y) refl in seq-two a b y ts n h (j .answer) (j .visits) (j .rules)
+      seq-one : (a b : ℕ) → b < length (g .nodes) → Answers l (at (node g b)) x → (r : Answer) (n : Amount) → Bounded g line l (at (node g a)) x r n → Answers l (at (seq a b)) x
+      seq-one a b lb k fail n h = record { answer = fail; amount = visiting n; rules = R.con3 h }
+      seq-one a b lb k (ok y ts) n h = let j = next b y h lb k (eqb x y) refl in seq-two a b y ts n h (j .answer) (j .amount) (j .rules)
 
-      choice-one : (a b : ℕ) → Answers l (at (node g b)) x → (r : Answer) (n : ℕ) → Bounded g line l (at (node g a)) x r n → Answers l (at (choice a b)) x
-      choice-one a b k fail n h = record { answer = k .answer; visits = suc (n + k .visits); rules = R.ord2 h (k .rules) }
-      choice-one a b k (ok y ts) n h = record { answer = ok y ts; visits = suc n; rules = R.ord1 h }
+      choice-one : (a b : ℕ) → Answers l (at (node g b)) x → (r : Answer) (n : Amount) → Bounded g line l (at (node g a)) x r n → Answers l (at (choice a b)) x
+      choice-one a b k fail n h = record { answer = k .answer; amount = visiting (n ⊕ k .amount); rules = R.ord2 h (k .rules) }
+      choice-one a b k (ok y ts) n h = record { answer = ok y ts; amount = visiting n; rules = R.ord1 h }
 
-      not-one : (a : ℕ) (r : Answer) (n : ℕ) → Bounded g line l (at (node g a)) x r n → Answers l (at (not a)) x
-      not-one a fail n h = record { answer = ok x no-trees; visits = suc n; rules = R.not1 h }
-      not-one a (ok y ts) n h = record { answer = fail; visits = suc n; rules = R.not2 h }
+      not-one : (a : ℕ) (r : Answer) (n : Amount) → Bounded g line l (at (node g a)) x r n → Answers l (at (not a)) x
+      not-one a fail n h = record { answer = ok x no-trees; amount = visiting n; rules = R.not1 h }
+      not-one a (ok y ts) n h = record { answer = fail; amount = visiting n; rules = R.not2 h }
 
-      rep-two : (a y : ℕ) (ts : Trees) (n : ℕ) → x ≢ y → Bounded g line l (at (node g a)) x (ok y ts) n → (r : Answer) (m : ℕ) → Bounded g line l (at (rep a)) y r m → Answers l (at (rep a)) x
+      rep-two : (a y : ℕ) (ts : Trees) (n : Amount) → x ≢ y → Bounded g line l (at (node g a)) x (ok y ts) n → (r : Answer) (m : Amount) → Bounded g line l (at (rep a)) y r m → Answers l (at (rep a)) x
       rep-two a y ts n q h fail m k = rep-matches g line k refl
-      rep-two a y ts n q h (ok z us) m k = record { answer = ok z (ts ⋈ us); visits = suc (n + m); rules = R.rep2 h q k }
+      rep-two a y ts n q h (ok z us) m k = record { answer = ok z (ts ⋈ us); amount = visiting (n ⊕ m); rules = R.rep2 h q k }
 
-      rep-at : (i a y : ℕ) (ts : Trees) (n : ℕ) → i < length (g .nodes) → node g i ≡ rep a → Bounded g line l (at (node g a)) x (ok y ts) n → (t : Bool) → eqb x y ≡ t → Answers l (at (rep a)) x
+      rep-at : (i a y : ℕ) (ts : Trees) (n : Amount) → i < length (g .nodes) → node g i ≡ rep a → Bounded g line l (at (node g a)) x (ok y ts) n → (t : Bool) → eqb x y ≡ t → Answers l (at (rep a)) x
       rep-at i a y ts n li e h true q =
           let z : y ≡ x = sym (eqb-true x y q) in
-          record { answer = ok x no-trees; visits = suc n; rules = R.rep3 (subst (λ w. Bounded g line l (at (node g a)) x (ok w ts) n) z h) }
+          record { answer = ok x no-trees; amount = visiting n; rules = R.rep3 (subst (λ w. Bounded g line l (at (node g a)) x (ok w ts) n) z h) }
       rep-at i a y ts n li e h false q =
           let s = spans g line h held in
           let z : x ≢ y = eqb-false x y q in
           let f = s .forward in
           let k = subst (λ p. Answers l (at p) y) e (past y (omega arith) (s .inside inside) l held i li) in
-          rep-two a y ts n z h (k .answer) (k .visits) (k .rules)
+          rep-two a y ts n z h (k .answer) (k .amount) (k .rules)
 
-      rep-one : (i a : ℕ) → i < length (g .nodes) → node g i ≡ rep a → (r : Answer) (n : ℕ) → Bounded g line l (at (node g a)) x r n → Answers l (at (rep a)) x
-      rep-one i a li e fail n h = record { answer = ok x no-trees; visits = suc n; rules = R.rep1 h }
+      rep-one : (i a : ℕ) → i < length (g .nodes) → node g i ≡ rep a → (r : Answer) (n : Amount) → Bounded g line l (at (node g a)) x r n → Answers l (at (rep a)) x
+      rep-one i a li e fail n h = record { answer = ok x no-trees; amount = visiting n; rules = R.rep1 h }
       rep-one i a li e (ok y ts) n h = rep-at i a y ts n li e h (eqb x y) refl
 
       byte-one : (lo hi : ℕ) (t : Bool) → fits line lo hi x ≡ t → Answers l (at (range lo hi)) x
-      byte-one lo hi true q = record { answer = ok (suc x) no-trees; visits = 1; rules = R.char1 q }
-      byte-one lo hi false q = record { answer = fail; visits = 1; rules = R.char2 q }
+      byte-one lo hi true q = record { answer = ok (suc x) no-trees; amount = visiting (asking x); rules = R.char1 q }
+      byte-one lo hi false q = record { answer = fail; amount = visiting (asking x); rules = R.char2 q }
 
       -- Every node, given every use of a rule; children have lower numbers.
       module _ (uses : (a : ℕ) → a < length (g .roots) → Answers l (at (rule a)) x) where
         at-node : (i : ℕ) → i < length (g .nodes) → ((j : ℕ) → j < i → Answers l (at (node g j)) x) → (p : Node) → node g i ≡ p → Below g i p → Answers l (at p) x
-        at-node i li ih empty e b = record { answer = ok x no-trees; visits = 1; rules = R.empty1 }
+        at-node i li ih empty e b = record { answer = ok x no-trees; amount = visiting nothing; rules = R.empty1 }
         at-node i li ih (range lo hi) e b = byte-one lo hi (fits line lo hi x) refl
         at-node i li ih (rule a) e b = uses a b
-        at-node i li ih (seq a c) e b = let h = ih a (b .0) in let lc : c < i = b .1 in seq-one a c (omega arith) (ih c (b .1)) (h .answer) (h .visits) (h .rules)
-        at-node i li ih (choice a c) e b = let h = ih a (b .0) in choice-one a c (ih c (b .1)) (h .answer) (h .visits) (h .rules)
-        at-node i li ih (not a) e b = let h = ih a b in not-one a (h .answer) (h .visits) (h .rules)
-        at-node i li ih (rep a) e b = let h = ih a b in rep-one i a li e (h .answer) (h .visits) (h .rules)
+        at-node i li ih (seq a c) e b = let h = ih a (b .0) in let lc : c < i = b .1 in seq-one a c (omega arith) (ih c (b .1)) (h .answer) (h .amount) (h .rules)
+        at-node i li ih (choice a c) e b = let h = ih a (b .0) in choice-one a c (ih c (b .1)) (h .answer) (h .amount) (h .rules)
+        at-node i li ih (not a) e b = let h = ih a b in not-one a (h .answer) (h .amount) (h .rules)
+        at-node i li ih (rep a) e b = let h = ih a b in rep-one i a li e (h .answer) (h .amount) (h .rules)
 
         descend : (j i : ℕ) → i < j → i < length (g .nodes) → Answers l (at (node g i)) x
         descend zero i lt li = absurd (omega arith)
@@ -119,33 +119,33 @@ module _ (g : Grammar) (line : List ℕ) where
 
       -- A use of a rule, given every visit of its root: growing ends at the line's end at the latest.
       module _ (a : ℕ) (visits : (q : Answer) → Spanned g line (root g a) x q → Answers (noted a x q l) (at (root g a)) x) where
-        grown-by : (e : ℕ) (ts : Trees) → ((e′ : ℕ) (ts′ : Trees) → e < e′ → Span g line (root g a) x e′ → Answers l (inc a e′ ts′) x) → (e′ n : ℕ) (ts′ : Trees)
+        grown-by : (e : ℕ) (ts : Trees) → ((e′ : ℕ) (ts′ : Trees) → e < e′ → Span g line (root g a) x e′ → Answers l (inc a e′ ts′) x) → (e′ : ℕ) (n : Amount) (ts′ : Trees)
             → Bounded g line (noted a x (ok e ts) l) (at (root g a)) x (ok e′ ts′) n → Span g line (root g a) x e′ → (t : Bool) → ltb e e′ ≡ t → Answers l (inc a e ts) x
-        grown-by e ts k e′ n ts′ h s true q = let j = k e′ ts′ (ltb-true e e′ q) s in record { answer = j .answer; visits = n + j .visits; rules = R.inc1 h (ltb-true e e′ q) (j .rules) }
-        grown-by e ts k e′ n ts′ h s false q = record { answer = ok e ts; visits = n; rules = R.inc3 h (ltb-false e e′ q) }
+        grown-by e ts k e′ n ts′ h s true q = let j = k e′ ts′ (ltb-true e e′ q) s in record { answer = j .answer; amount = n ⊕ j .amount; rules = R.inc1 h (ltb-true e e′ q) (j .rules) }
+        grown-by e ts k e′ n ts′ h s false q = record { answer = ok e ts; amount = n; rules = R.inc3 h (ltb-false e e′ q) }
 
-        attempt : (e : ℕ) (ts : Trees) → Span g line (root g a) x e → ((e′ : ℕ) (ts′ : Trees) → e < e′ → Span g line (root g a) x e′ → Answers l (inc a e′ ts′) x) → (r : Answer) (n : ℕ)
+        attempt : (e : ℕ) (ts : Trees) → Span g line (root g a) x e → ((e′ : ℕ) (ts′ : Trees) → e < e′ → Span g line (root g a) x e′ → Answers l (inc a e′ ts′) x) → (r : Answer) (n : Amount)
             → Bounded g line (noted a x (ok e ts) l) (at (root g a)) x r n → Answers l (inc a e ts) x
-        attempt e ts s k fail n h = record { answer = ok e ts; visits = n; rules = R.inc2 h }
+        attempt e ts s k fail n h = record { answer = ok e ts; amount = n; rules = R.inc2 h }
         attempt e ts s k (ok e′ ts′) n h = grown-by e ts k e′ n ts′ h (spans g line h (held-more g line l a x (ok e ts) s held)) (ltb e e′) refl
 
         grown : (m e : ℕ) (ts : Trees) → length line ≤ e + m → Span g line (root g a) x e → Answers l (inc a e ts) x
         grown zero e ts le s =
             let v = visits (ok e ts) s in
-            attempt e ts s (λ e′ ts′ lt s′. let z = s′ .inside inside in absurd (omega arith)) (v .answer) (v .visits) (v .rules)
+            attempt e ts s (λ e′ ts′ lt s′. let z = s′ .inside inside in absurd (omega arith)) (v .answer) (v .amount) (v .rules)
         grown (suc m) e ts le s =
             let v = visits (ok e ts) s in
-            attempt e ts s (λ e′ ts′ lt s′. grown m e′ ts′ (omega arith) s′) (v .answer) (v .visits) (v .rules)
+            attempt e ts s (λ e′ ts′ lt s′. grown m e′ ts′ (omega arith) s′) (v .answer) (v .amount) (v .rules)
 
-        first : look l a x ≡ none → (r : Answer) (n : ℕ) → Bounded g line (noted a x fail l) (at (root g a)) x r n → Answers l (at (rule a)) x
-        first q fail n h = record { answer = fail; visits = suc n; rules = R.lvar2 q h }
+        first : look l a x ≡ none → (r : Answer) (n : Amount) → Bounded g line (noted a x fail l) (at (root g a)) x r n → Answers l (at (rule a)) x
+        first q fail n h = record { answer = fail; amount = visiting n; rules = R.lvar2 q h }
         first q (ok e ts) n h =
             let k = grown (length line) e ts (omega arith) (spans g line h (held-more g line l a x fail tt held)) in
-            record { answer = wrap a x (k .answer); visits = suc (n + k .visits); rules = R.lvar1 q h (k .rules) }
+            record { answer = wrap a x (k .answer); amount = visiting (n ⊕ k .amount); rules = R.lvar1 q h (k .rules) }
 
       used : (a : ℕ) → (look l a x ≡ none → (q : Answer) → Spanned g line (root g a) x q → Answers (noted a x q l) (at (root g a)) x) → (o : Option Answer) → look l a x ≡ o → Answers l (at (rule a)) x
-      used a v none q = let h = v q fail tt in first a (v q) q (h .answer) (h .visits) (h .rules)
-      used a v (some r) q = record { answer = wrap a x r; visits = 1; rules = R.lvar3 q }
+      used a v none q = let h = v q fail tt in first a (v q) q (h .answer) (h .amount) (h .rules)
+      used a v (some r) q = record { answer = wrap a x r; amount = visiting nothing; rules = R.lvar3 q }
 
     -- A rule that isn't live is none of s.
     fresh : (l : List Note) (a : ℕ) (s : List ℕ) → LiveAt l x s → look l a x ≡ none → Absent a s ⊎ In a s → Absent a s
@@ -182,7 +182,7 @@ module _ (g : Grammar) (line : List ℕ) where
         (λ q r s. lemma-2 (noted a x r l) (held-more g line l a x r s held) (rootOf g a) x (good .roots a la) inside) (look l a x) refl
 
   -- Every line has its reading by the bounded rules.
-  pub answered : Closed g → 0 < length (g .roots) → (r : Answer) × (n : ℕ) × Reads g line r n
+  pub answered : Closed g → 0 < length (g .roots) → (r : Answer) × (n : Amount) × Reads g line r n
   unfolding look
   answered good rules =
       let h = use-answers good [] (λ b w q e. found refl e) 0 0 rules (omega arith) in

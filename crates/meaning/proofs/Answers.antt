@@ -1,13 +1,13 @@
 -- Small laws of answers: what equal answers have in common, and which answers are never equal.
-use mathlib.Core.Path.{_≡_, sym, ap}
-use Prim.Native.Nat.{ℕ, suc, _+_}
+use mathlib.Core.Path.{_≡_, sym, ap, ap₂}
+use Prim.Native.Nat.{ℕ}
 use mathlib.Core.Bool.{Bool, true, false}
 use mathlib.Core.Option.{Option, none, some}
 use native.Mathlib.Omega.{arith}
 use Rattle.meaning.specs.Grammar.{Trees, _⋈_, Answer, fail, ok}
 
--- Two derivations have one answer, and one count (of visits, or a height).
-pub record Same (r s : Answer) (n m : ℕ) : Type 0 where
+-- Two derivations have one answer, and one count (what they amount to, or a height).
+pub record Same {C : Type 0} (r s : Answer) (n m : C) : Type 0 where
   pub answer : r ≡ s
   pub count : n ≡ m
 
@@ -36,9 +36,9 @@ held p q = cc
 pub joined : {e f y z : ℕ} {ts us vs ws : Trees} → ok y ts ≡ ok z us → ok e vs ≡ ok f ws → ok e (ts ⋈ vs) ≡ ok f (us ⋈ ws)
 joined p q = cc
 
--- A rule with one premise, and with two.
-pub step : {r s t u : Answer} {n m : ℕ} → r ≡ s → Same t u n m → Same r s (suc n) (suc m)
-step e i = record { answer = e; count = ap suc (i .count) }
+-- A rule with one premise, and with two; f makes its count of theirs.
+pub step : {C : Type 0} (f : C → C) {r s t u : Answer} {n m : C} → r ≡ s → Same t u n m → Same r s (f n) (f m)
+step f e i = record { answer = e; count = ap f (i .count) }
 
-pub steps : {r s t u v w : Answer} {n m k l : ℕ} → r ≡ s → Same t u n m → Same v w k l → Same r s (suc (n + k)) (suc (m + l))
-steps e i j = record { answer = e; count = cc (i .count, j .count) }
+pub steps : {C : Type 0} (f : C → C → C) {r s t u v w : Answer} {n m k l : C} → r ≡ s → Same t u n m → Same v w k l → Same r s (f n k) (f m l)
+steps f e i j = record { answer = e; count = ap₂ f (i .count) (j .count) }

@@ -9,17 +9,17 @@ use mathlib.Core.Option.{Option, none, some}
 use lib.ListN.{length, length-append}
 use native.Mathlib.Omega.{arith}
 use Rattle.meaning.specs.Grammar.{Node, rule, Grammar, node, rootOf, root, Below, Closed, Answer, Note, noted, look}
-use Rattle.meaning.specs.Rules.{Plain, var}
+use Rattle.meaning.specs.Rules.{Plain, empty1, char1, char2, var}
 use Rattle.meaning.specs.Report.{bound}
-use Rattle.meaning.specs.Reading.{State, made, Visit, deep, wrapped, keep, useRule, recall, visited, visit, readBy}
+use Rattle.meaning.specs.Reading.{State, starting, spent, keeping, made, Visit, deep, wrapped, keep, useRule, recall, visited, visit, readBy}
 use Rattle.meaning.proofs.Answers.{found}
 use Rattle.meaning.proofs.OnePlain.{height, det}
 use Rattle.meaning.proofs.Runs.{Ends, ends-after, ends-map, ends-both, ends-counted}
 use Rattle.meaning.proofs.Free.{span}
 use Rattle.meaning.proofs.Effort.{effort-left}
 use Rattle.meaning.proofs.Walk as W
-use Rattle.meaning.proofs.Walk.{First, Second, Refusal, by-effort, by-depth, Laws, walk}
-use Rattle.meaning.proofs.Kept.{plain-leaf, plain-one, plain-two, Right, right-keep}
+use Rattle.meaning.proofs.Walk.{Leaf, First, Second, Refusal, by-effort, by-depth, Laws, walk}
+use Rattle.meaning.proofs.Kept.{plain-one, plain-two, Right, right-keep}
 use Rattle.meaning.proofs.Lower.{first-below, second-below, Lower, root-lower, first-lower, second-lower}
 use Rattle.meaning.proofs.Pigeon.{Absent, In, Distinct, seek, at-most, distinct-mid, absent-both}
 use Rattle.meaning.proofs.Pairs.{code, code-below, code-number, code-position, codes, length-codes, Inside, missing}
@@ -89,7 +89,7 @@ module _ (g : Grammar) (line : List ℕ) where
       at-head j y c d ly (inr m) = let z : 1 + height g line (u .rules) ≤ height g line d = u .above j y c d ly m in omega arith
 
   enter : (o : List ℕ) (i x n : ℕ) (s : State) → i < length (g .nodes) → Under o (node g i) x 1 → look (s .kept) i x ≡ none → Inv o s
-      → Inv (code L i x ∷ o) (record { left = n; kept = s .kept })
+      → Inv (code L i x ∷ o) (spent n s)
   enter o i x n s li u e w = record {
     right = w .right;
     inside = w .inside;
@@ -101,7 +101,7 @@ module _ (g : Grammar) (line : List ℕ) where
   }
 
   leave : (o : List ℕ) (i x : ℕ) (r : Answer) (s : State) → x ≤ L → Plain g line (node g i) x r → Inv (code L i x ∷ o) s
-      → Inv o (record { left = s .left; kept = noted i x r (s .kept) })
+      → Inv o (keeping i x r s)
   leave o i x r s lx h w = record {
     right = right-keep g line i x r (s .kept) h (w .right);
     inside = (lx, w .inside);
@@ -153,9 +153,15 @@ module _ (g : Grammar) (line : List ℕ) where
           → Under o (node g i) x 0 → Under o (node g b) y 1
       second-under i x a b y r f m n h u = lower-under y u (second-inside n h (u .inside)) (second-lower g line refl m n h (u .rules))
 
+      -- A node that visits none spends none, and keeps none.
+      came-leaf : {p : Node} {x : ℕ} {s t : State} {r : Answer} → Leaf line x s p r t → Inv o s → Came o p x 2 s r t
+      came-leaf W.empty1 w = record { plain = empty1; inv = w; count = omega arith }
+      came-leaf (W.char1 q) w = record { plain = char1 q; inv = record { right = w .right; inside = w .inside; distinct = w .distinct }; count = omega arith }
+      came-leaf (W.char2 q) w = record { plain = char2 q; inv = record { right = w .right; inside = w .inside; distinct = w .distinct }; count = omega arith }
+
       laws : Laws g line Visits Uses Applies Visits′ Uses′ Applies′
       laws = record {
-        leaf = λ i x r s l li u w. record { plain = plain-leaf g line l; inv = w; count = omega arith };
+        leaf = λ i x r s t l li u w. came-leaf l w;
         uses = λ i a x r s t e h li u w. let k = h (rule-there i a e li) (rule-under i a x e u) w in let z = k .count in
             record { plain = rw e (k .plain); inv = k .inv; count = omega arith };
         one = λ i x a r q s t m n h li u w. let k = h (first-there i a m li) (first-under i a x m u) w in let z = k .count in
@@ -185,13 +191,13 @@ module _ (g : Grammar) (line : List ℕ) where
 
       -- A visit with n left after it, of a pair that is kept or not.
       of-recall : (o : List ℕ) (i x n : ℕ) (s : State) (m : Option Answer) → s .left ≡ suc n → look (s .kept) i x ≡ m
-          → Ends (Visits′ o by-effort i x s) (Visits′ o by-depth i x s) (Visits o i x s) (recall g line v l i x (record { left = n; kept = s .kept }) m)
+          → Ends (Visits′ o by-effort i x s) (Visits′ o by-depth i x s) (Visits o i x s) (recall g line v l i x (spent n s) m)
       unfolding recall keep
       of-recall o i x n s (some r) f e = λ li u w.
           record { plain = w .right i x r e; inv = record { right = w .right; inside = w .inside; distinct = w .distinct }; count = omega arith }
       of-recall o i x n s none f e =
           let q : List ℕ = code L i x ∷ o in
-          let t : State = record { left = n; kept = s .kept } in
+          let t : State = spent n s in
           ends-after _ _ (keep i x) (walk (laws q) (v l) (hv q) (useRule g line true v l) (of-use q) i x t)
           (λ t′ h li u w. let z = h li (under-open o i x u) (enter o i x n s li u e w) in omega arith)
           (λ t′ h li u w. let z = h li (under-open o i x u) (enter o i x n s li u e w) in omega arith)
@@ -214,7 +220,7 @@ module _ (g : Grammar) (line : List ℕ) where
       pub ceiling : Ends (λ t. allowance ≤ t .left + 2 * pairs) (λ t. allowance ≤ t .left + 2 * pairs) (λ r t. allowance ≤ t .left + 1 + 2 * pairs) (readBy g line true allowance)
       unfolding readBy look
       ceiling =
-          let s : State = record { left = allowance; kept = [] } in
+          let s : State = starting allowance in
           let v : List Note → Visit = visit g line true 512 in
           let u : Under [] (rule 0) 0 0 = record { answer = _; rules = answered; inside = omega arith; above = λ j y c e ly m. absurd m } in
           let w : Inv [] s = record { right = λ i x r e. found refl e; inside = tt; distinct = tt } in

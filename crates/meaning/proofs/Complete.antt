@@ -1,5 +1,5 @@
 -- Where the bounded rules answer in n visits, a reading that keeps nothing and has n visits gives that answer in n visits, or is refused for depth.
-use mathlib.Core.Path.{_≡_, refl, sym, subst}
+use mathlib.Core.Path.{_≡_, refl, sym, subst, ap}
 use Prim.Native.Nat.{ℕ, zero, suc, _+_, _<_, _≤_}
 use mathlib.Core.Bool.{false}
 use mathlib.Core.List.{List, []}
@@ -7,9 +7,9 @@ use mathlib.Core.Option.{none, some}
 use borrow.Author.Tests.{eq-eqb, ne-eqb, lt-ltb, le-ltb}
 use native.Mathlib.Omega.{arith}
 use Rattle.meaning.specs.Grammar.{Node, rule, Grammar, node, rootOf, root, Trees, Answer, fail, ok, wrap, Note, noted, look}
-use Rattle.meaning.specs.Reading.{State, Run, deep, done, after, byte, joined, second, otherwise, denied, repeatFrom, repeated, apply}
+use Rattle.meaning.specs.Reading.{State, starting, spent, Run, deep, done, after, byte, joined, second, otherwise, denied, repeatFrom, repeated, apply}
 use Rattle.meaning.specs.Reading.{wrapped, longer, attempted, grow, firstAttempt, useLive, useRule, visited, visit, readBy}
-use Rattle.meaning.specs.Rules.{Goal, at, inc, Bounded, Reads}
+use Rattle.meaning.specs.Rules.{Goal, at, inc, Amount, Bounded, Reads}
 use Rattle.meaning.specs.Rules as R
 use Rattle.meaning.proofs.Runs.{Ends, All, ends-after, ends-map, ends-counted, all-map}
 use Rattle.meaning.proofs.OneBounded.{one-reading}
@@ -33,7 +33,7 @@ last {m = m} h f = record { ends = ends-map m (h .ends) (λ s z. z) (λ s z. z) 
 
 module _ (g : Grammar) (line : List ℕ) where
   -- Every visit counts, and every attempt makes one.
-  some-visit : {l : List Note} {p : Goal} {x n : ℕ} {r : Answer} → Bounded g line l p x r n → 0 < n
+  some-visit : {l : List Note} {p : Goal} {x : ℕ} {n : Amount} {r : Answer} → Bounded g line l p x r n → 0 < n .visits
   some-visit R.empty1 = omega arith
   some-visit (R.char1 q) = omega arith
   some-visit (R.char2 q) = omega arith
@@ -77,7 +77,7 @@ module _ (g : Grammar) (line : List ℕ) where
   enter l x {p} {n} {r} h (suc d) i s e le =
       record {
         ends = ends-counted _ _ _ (s .left) x s (visited g line false (visit g line false d) l i x) (λ z. omega arith)
-            (λ m z. let t : State = record { left = m; kept = s .kept } in
+            (λ m z. let t : State = spent m s in
             let v = visit g line false d in
             last (subst (λ w. Gives m n r (apply line (v l) (useRule g line false v l) i x t w)) (sym e) (h d i t e (omega arith))) (λ u w. omega arith) .ends);
       }
@@ -105,7 +105,7 @@ module _ (g : Grammar) (line : List ℕ) where
   of-grow d l a x zero e ts s h w c le lf k = absurd (omega arith)
   of-grow d l a x (suc f) e ts s h w c le lf k = then _ (h d (rootOf g a) s refl (omega arith)) (λ t z. k f t (omega arith) z)
 
-  pub complete : {l : List Note} {p : Goal} {x n : ℕ} {r : Answer} → Bounded g line l p x r n → Comes l p x r n
+  pub complete : {l : List Note} {p : Goal} {x : ℕ} {n : Amount} {r : Answer} → Bounded g line l p x r n → Comes l p x r (n .visits)
   unfolding apply second otherwise denied repeated repeatFrom joined byte attempted longer
   complete R.empty1 = enter _ _ (λ d i s e le. now (omega arith))
   complete (R.char1 q) = enter _ _ (λ d i s e le. rw q (now (omega arith)))
@@ -136,17 +136,17 @@ module _ (g : Grammar) (line : List ℕ) where
       λ d f s le lf. of-grow d l a x f e ts s (complete h) (some-visit h) (omega arith) le lf (λ f′ t c z. rw (le-ltb e e′ q) (now z))
 
   -- The reading is a use, and no visit.
-  use-complete : {l : List Note} {a x n : ℕ} {r : Answer} → Bounded g line l (at (rule a)) x r (suc n) → Uses l a x r n
-  use-complete (R.lvar1 o h k) = of-lvar1 _ _ _ o (complete h) (complete k)
-  use-complete (R.lvar2 o h) = of-lvar2 _ _ _ o (complete h)
-  use-complete (R.lvar3 o) = of-lvar3 _ _ _ o
+  use-complete : {l : List Note} {a x : ℕ} {n : Amount} {r : Answer} → Bounded g line l (at (rule a)) x r n → (k : ℕ) → n .visits ≡ suc k → Uses l a x r k
+  use-complete (R.lvar1 {n = n} {m = m} o h k) j e = let z : n .visits + m .visits ≡ j = omega arith in rw (sym z) (of-lvar1 _ _ _ o (complete h) (complete k))
+  use-complete (R.lvar2 {n = n} o h) j e = let z : n .visits ≡ j = omega arith in rw (sym z) (of-lvar2 _ _ _ o (complete h))
+  use-complete (R.lvar3 o) j e = let z : j ≡ 0 = omega arith in rw z (of-lvar3 _ _ _ o)
 
   -- With n visits allowed the reading gives that answer and leaves the others, unless it is refused for depth; with less it gives none.
-  pub read-complete : {r : Answer} {n : ℕ} → Reads g line r n → (allowance : ℕ) → n ≤ allowance
-      → Ends (λ s. ⊥) (λ s. Unit {0}) (λ q t. (q ≡ r) × (allowance ≡ n + t .left)) (readBy g line false allowance)
+  pub read-complete : {r : Answer} {n : Amount} → Reads g line r n → (allowance : ℕ) → n .visits ≤ allowance
+      → Ends (λ s. ⊥) (λ s. Unit {0}) (λ q t. (q ≡ r) × (allowance ≡ n .visits + t .left)) (readBy g line false allowance)
   unfolding readBy
-  read-complete h allowance le = use-complete (h .rules) 512 (record { left = allowance; kept = [] }) le .ends
+  read-complete h allowance le = use-complete (h .rules) _ refl 512 (starting allowance) le .ends
 
-  pub read-short : {r : Answer} {n : ℕ} → Reads g line r n → (allowance : ℕ) → allowance < n → All (λ q t. ⊥) (readBy g line false allowance)
+  pub read-short : {r : Answer} {n : Amount} → Reads g line r n → (allowance : ℕ) → allowance < n .visits → All (λ q t. ⊥) (readBy g line false allowance)
   read-short h allowance lt =
-      all-map (readBy g line false allowance) (read-sound g line allowance) (λ q t w. let i = one-reading g line h (w .1) in omega arith)
+      all-map (readBy g line false allowance) (read-sound g line allowance) (λ q t w. let i : _ ≡ w .0 = one-reading g line h (w .1) .count in let v = ap (λ (a : Amount). a .visits) i in let z = w .2 .left in omega arith)

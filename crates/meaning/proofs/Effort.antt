@@ -6,10 +6,11 @@ use mathlib.Core.List.{List, []}
 use mathlib.Core.Option.{Option, none, some}
 use lib.Dec.{ltb}
 use native.Mathlib.Omega.{arith}
-use Rattle.meaning.specs.Grammar.{Grammar, rootOf, Trees, Answer, fail, ok, Note, noted, look}
-use Rattle.meaning.specs.Reading.{State, Run, Visit, after, wrapped, longer, attempted, grow, firstAttempt, useLive, keep, useRule, recall, visited, visit, readBy}
+use Rattle.meaning.specs.Grammar.{Node, Grammar, rootOf, Trees, Answer, fail, ok, Note, noted, look}
+use Rattle.meaning.specs.Reading.{State, starting, spent, Run, Visit, after, wrapped, longer, attempted, grow, firstAttempt, useLive, keep, useRule, recall, visited, visit, readBy}
 use Rattle.meaning.proofs.Runs.{Ends, ends-after, ends-map, ends-counted}
-use Rattle.meaning.proofs.Walk.{Refusal, by-effort, by-depth, Laws, walk}
+use Rattle.meaning.proofs.Walk as W
+use Rattle.meaning.proofs.Walk.{Leaf, Refusal, by-effort, by-depth, Laws, walk}
 
 -- What is left where a run that has n visits is refused.
 abbrev Refused : ℕ → Refusal → State → Type 0
@@ -61,10 +62,16 @@ module _ (x : ℕ) (v : Answer → State → Run) (hv : (r : Answer) (s : State)
   of-live a s (some r) = omega arith
 
 module _ (g : Grammar) (line : List ℕ) where
+  -- A node that visits none spends none.
+  stays : {x : ℕ} {s t : State} {p : Node} {r : Answer} → Leaf line x s p r t → t .left ≤ s .left
+  stays W.empty1 = omega arith
+  stays (W.char1 q) = omega arith
+  stays (W.char2 q) = omega arith
+
   laws : Laws g line (λ i x s r t. t .left < s .left) (λ a x s r t. t .left ≤ s .left) (λ i x s r t. t .left ≤ s .left)
       (λ why i x s. Refused (s .left) why) (λ why a x s. Refused (s .left) why) (λ why i x s. Refused (s .left) why)
   laws = record {
-    leaf = λ i x r s w. omega arith;
+    leaf = λ i x r s t w. stays w;
     uses = λ i a x r s t e h. h;
     one = λ i x a r q s t f c h. omega arith;
     two = λ i x a b y r q w s t u f c h k. omega arith;
@@ -95,10 +102,10 @@ module _ (g : Grammar) (line : List ℕ) where
   of-visit free (suc d) l i x s =
       let v : List Note → Visit = visit g line free d in
       ends-counted _ _ _ (s .left) x s (visited g line free v l i x) (λ e. e)
-      (λ n e. let t : State = record { left = n; kept = s .kept } in
+      (λ n e. let t : State = spent n s in
       ends-map (visited g line free v l i x t) (of-visited v (of-visit free d) free l i x t) (λ u h. h) (λ u h. omega arith) (λ r u h. omega arith))
 
   pub effort-left : (free : Bool) (allowance : ℕ)
       → Ends (λ t. t .left ≡ 0) (λ t. (0 < t .left) × (t .left ≤ allowance)) (λ r t. t .left ≤ allowance) (readBy g line free allowance)
   unfolding readBy
-  effort-left free allowance = of-use (visit g line free 512) (of-visit free 512) free [] 0 0 (record { left = allowance; kept = [] })
+  effort-left free allowance = of-use (visit g line free 512) (of-visit free 512) free [] 0 0 (starting allowance)

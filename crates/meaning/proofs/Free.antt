@@ -7,7 +7,7 @@ use mathlib.Core.Option.{some}
 use lib.ListN.{length}
 use native.Mathlib.Omega.{arith}
 use Rattle.meaning.specs.Grammar.{Node, rule, seq, choice, not, rep, Grammar, node, rootOf, root, Below, Closed, Trees, Answer, fail, ok, wrap, Note, noted, look}
-use Rattle.meaning.specs.Rules.{Plain, Goal, at, inc, Bounded}
+use Rattle.meaning.specs.Rules.{Plain, Goal, at, inc, Amount, Bounded}
 use Rattle.meaning.specs.Rules as R
 use Rattle.meaning.specs.Report.{Starts, by-not, by-rep, by-choice, by-other, by-first, by-second, by-rule, Leads, here, on, to-second, Free}
 use Rattle.meaning.proofs.Answers.{ends, never′, found}
@@ -82,7 +82,7 @@ module _ (g : Grammar) (line : List ℕ) (good : Closed g) (free : Free g) where
   below : (i : ℕ) (p : Node) → i < length (g .nodes) → node g i ≡ p → Below g i p
   below i p li e = subst (Below g i) e (good .nodes i li)
 
-  pub becomes : {l : List Note} {p : Goal} {x n : ℕ} {r : Answer} → Bounded g line l p x r n → Becomes p l x r
+  pub becomes : {l : List Note} {p : Goal} {x : ℕ} {n : Amount} {r : Answer} → Bounded g line l p x r n → Becomes p l x r
   unfolding wrap
   becomes R.empty1 = λ i li e c. R.empty1
   becomes (R.char1 q) = λ i li e c. R.char1 q

@@ -8,7 +8,7 @@ use mathlib.Core.Option.{none}
 use lib.ListN.{length}
 use native.Mathlib.Omega.{arith}
 use Rattle.meaning.specs.Grammar.{Node, rule, rep, Grammar, node, rootOf, root, Below, Closed, Trees, Answer, fail, ok, Note, noted, look}
-use Rattle.meaning.specs.Rules.{Plain, Goal, at, inc, Bounded, Reads}
+use Rattle.meaning.specs.Rules.{Plain, Goal, at, inc, Amount, Bounded, Reads}
 use Rattle.meaning.specs.Rules as R
 use Rattle.meaning.specs.Report.{RepeatsNothing, repeats, Consuming}
 use Rattle.meaning.specs.Reading.{State, visit}
@@ -29,7 +29,7 @@ module _ (g : Grammar) (line : List ℕ) where
   pub data Live : List Note → Type 0 where
     nothing : Live []
     begun : {l : List Note} {a x : ℕ} → Live l → look l a x ≡ none → Live (noted a x fail l)
-    grown : {l : List Note} {a x e n : ℕ} {q : Answer} {ts : Trees} → Live (noted a x q l) → Bounded g line (noted a x q l) (at (root g a)) x (ok e ts) n → Live (noted a x (ok e ts) l)
+    grown : {l : List Note} {a x e : ℕ} {n : Amount} {q : Answer} {ts : Trees} → Live (noted a x q l) → Bounded g line (noted a x q l) (at (root g a)) x (ok e ts) n → Live (noted a x (ok e ts) l)
 
   -- Without the use that became live last.
   abbrev older : List Note → List Note
@@ -57,9 +57,9 @@ module _ (g : Grammar) (line : List ℕ) where
     -- By the plain rules.
     pub plain : {x y : ℕ} {ts : Trees} → Plain g line (node g a) x (ok y ts) → x < y
     -- By the bounded rules, whatever is live, as long as what is held could be an answer.
-    pub bounded : {l : List Note} {x y n : ℕ} {ts : Trees} → Held g line l → Bounded g line l (at (node g a)) x (ok y ts) n → x < y
+    pub bounded : {l : List Note} {x y : ℕ} {n : Amount} {ts : Trees} → Held g line l → Bounded g line l (at (node g a)) x (ok y ts) n → x < y
     -- So with the live uses of a reading, growing included.
-    pub live : {l : List Note} {x y n : ℕ} {ts : Trees} → Live l → Bounded g line l (at (node g a)) x (ok y ts) n → x < y
+    pub live : {l : List Note} {x y : ℕ} {n : Amount} {ts : Trees} → Live l → Bounded g line l (at (node g a)) x (ok y ts) n → x < y
     -- So a visit of it that is done, with nothing kept.
     pub visited : {l : List Note} → Live l → (d x : ℕ) (s : State) → All (λ r t. Past x r) (visit g line false d l a x s)
     -- And one with answers kept, where they are the plain rules'.
@@ -78,7 +78,7 @@ module _ (g : Grammar) (line : List ℕ) where
     past-plain x fail h = tt
     past-plain x (ok y ts) h = past (span g line h)
 
-    past-bounded : (l : List Note) → Held g line l → (x n : ℕ) (r : Answer) → Bounded g line l (at (node g a)) x r n → Past x r
+    past-bounded : (l : List Note) → Held g line l → (x : ℕ) (n : Amount) (r : Answer) → Bounded g line l (at (node g a)) x r n → Past x r
     past-bounded l f x n fail h = tt
     past-bounded l f x n (ok y ts) h = past (spans g line h f)
 
@@ -88,7 +88,7 @@ module _ (g : Grammar) (line : List ℕ) where
       plain = λ h. past (span g line h);
       bounded = λ f h. past (spans g line h f);
       live = λ k h. past (spans g line h (live-held k));
-      visited = λ k d x s. all-map (visit g line false d _ a x s) (of-visit g line d _ a x s) (λ r t h. past-bounded _ (live-held k) x (h .visits) r (h .rules));
+      visited = λ k d x s. all-map (visit g line false d _ a x s) (of-visit g line d _ a x s) (λ r t h. past-bounded _ (live-held k) x (h .amount) r (h .rules));
       visited-kept = λ l d x s o. all-map (visit g line true d l a x s) (visit-plain g line d l a x s o) (λ r t h. past-plain x r (h .0));
     }
 
@@ -110,7 +110,7 @@ module _ (g : Grammar) (line : List ℕ) where
   PlainWithoutRep3 (R.rep3 h) = ⊥
 
   -- The same of a derivation by the bounded rules.
-  abbrev pub WithoutRep3 : {l : List Note} {p : Goal} {x n : ℕ} {r : Answer} → Bounded g line l p x r n → Type 0
+  abbrev pub WithoutRep3 : {l : List Note} {p : Goal} {x : ℕ} {n : Amount} {r : Answer} → Bounded g line l p x r n → Type 0
   WithoutRep3 R.empty1 = Unit {0}
   WithoutRep3 (R.char1 q) = Unit {0}
   WithoutRep3 (R.char2 q) = Unit {0}
@@ -132,7 +132,7 @@ module _ (g : Grammar) (line : List ℕ) where
   WithoutRep3 (R.inc3 h q) = WithoutRep3 h
 
   -- At every point of a derivation the live uses are such as come about in a reading.
-  abbrev pub LiveThroughout : {l : List Note} {p : Goal} {x n : ℕ} {r : Answer} → Bounded g line l p x r n → Type 0
+  abbrev pub LiveThroughout : {l : List Note} {p : Goal} {x : ℕ} {n : Amount} {r : Answer} → Bounded g line l p x r n → Type 0
   LiveThroughout (R.empty1 {l = l}) = Live l
   LiveThroughout (R.char1 {l = l} q) = Live l
   LiveThroughout (R.char2 {l = l} q) = Live l
@@ -158,7 +158,7 @@ module _ (g : Grammar) (line : List ℕ) where
   Holding l (at p) x = Unit {0}
   Holding l (inc a e ts) x = Live (noted a x (ok e ts) l)
 
-  pub live-throughout : {l : List Note} {p : Goal} {x n : ℕ} {r : Answer} (d : Bounded g line l p x r n) → Live l → Holding l p x → LiveThroughout d
+  pub live-throughout : {l : List Note} {p : Goal} {x : ℕ} {n : Amount} {r : Answer} (d : Bounded g line l p x r n) → Live l → Holding l p x → LiveThroughout d
   live-throughout R.empty1 f s = f
   live-throughout (R.char1 q) f s = f
   live-throughout (R.char2 q) f s = f
@@ -180,7 +180,7 @@ module _ (g : Grammar) (line : List ℕ) where
   live-throughout (R.inc3 h q) f s = (f, live-throughout h s tt)
 
   -- So it is at every point of a reading, growing included.
-  pub reads-live : {r : Answer} {n : ℕ} (h : Reads g line r n) → LiveThroughout (h .rules)
+  pub reads-live : {r : Answer} {n : Amount} (h : Reads g line r n) → LiveThroughout (h .rules)
   reads-live h = live-throughout (h .rules) nothing tt
 
   -- A node of the grammar, or a use of a rule of it: its children are there, and it is no repetition of nothing.
@@ -217,7 +217,7 @@ module _ (g : Grammar) (line : List ℕ) where
     root-of a la = inside-node (rootOf g a) (closed .roots a la)
 
     -- Inside the grammar the bounded rules answer without rep.3, whatever is live.
-    pub without-rep3 : {l : List Note} {p : Goal} {x n : ℕ} {r : Answer} (d : Bounded g line l p x r n) → Held g line l → Sought p x → WithoutRep3 d
+    pub without-rep3 : {l : List Note} {p : Goal} {x : ℕ} {n : Amount} {r : Answer} (d : Bounded g line l p x r n) → Held g line l → Sought p x → WithoutRep3 d
     without-rep3 R.empty1 f s = tt
     without-rep3 (R.char1 q) f s = tt
     without-rep3 (R.char2 q) f s = tt
@@ -259,7 +259,7 @@ module _ (g : Grammar) (line : List ℕ) where
 
     module _ (rules : 0 < length (g .roots)) where
       -- rep.3 is used in no reading by the bounded rules.
-      pub reads-without-rep3 : {r : Answer} {n : ℕ} (h : Reads g line r n) → WithoutRep3 (h .rules)
+      pub reads-without-rep3 : {r : Answer} {n : Amount} (h : Reads g line r n) → WithoutRep3 (h .rules)
       reads-without-rep3 h = without-rep3 (h .rules) nothing-held (inside-use 0 rules)
 
       -- Nor in one by the plain rules.

@@ -2,7 +2,7 @@
 use mathlib.Core.Path.{_≡_, refl}
 use Prim.Native.Nat.{ℕ, zero, suc}
 use Rattle.meaning.specs.Grammar.{Answer}
-use Rattle.meaning.specs.Reading.{State, Run, effort, deep, done, after, counted}
+use Rattle.meaning.specs.Reading.{State, spent, Run, effort, deep, done, after, counted}
 
 -- E holds of the state of a run refused for effort, D of one refused for depth, P of the answer and the state of one that is done.
 abbrev pub Ends : (State → Type 0) → (State → Type 0) → (Answer → State → Type 0) → Run → Type 0
@@ -38,7 +38,7 @@ ends-both (done r s) h k f d c = c r s h k
 
 -- Before a visit: none is left, or k makes it with one less.
 pub ends-counted : (E D : State → Type 0) (P : Answer → State → Type 0) (n x : ℕ) (s : State) (k : State → Run) → (n ≡ 0 → E s)
-    → ((l : ℕ) → n ≡ suc l → Ends E D P (k (record { left = l; kept = s .kept }))) → Ends E D P (counted n x s k)
+    → ((l : ℕ) → n ≡ suc l → Ends E D P (k (spent l s))) → Ends E D P (counted n x s k)
 unfolding counted
 ends-counted E D P zero x s k e c = e refl
 ends-counted E D P (suc l) x s k e c = c l refl

@@ -9,7 +9,7 @@ use lib.ListN.{length}
 use borrow.Author.Tests.{ltb-true}
 use native.Mathlib.Omega.{arith}
 use Rattle.meaning.specs.Grammar.{Node, empty, rule, choice, Grammar, node, root, Answer, fail, ok, wrap, fits, Note, noted, look}
-use Rattle.meaning.specs.Rules.{Goal, at, inc, Bounded}
+use Rattle.meaning.specs.Rules.{Goal, at, inc, Amount, Bounded}
 use Rattle.meaning.specs.Rules as R
 use Rattle.meaning.specs.Report.{MayBeEmpty, of-empty, of-not, of-rep, of-rule, of-seq, of-first, of-second}
 use Rattle.meaning.proofs.Notes.{look-cases}
@@ -64,7 +64,7 @@ module _ (g : Grammar) (line : List ℕ) where
   still : {p : Node} {x : ℕ} → MayBeEmpty g p → Span p x x
   still m = record { forward = omega arith; inside = λ h. h; empty = λ h. m }
 
-  pub spans : {l : List Note} {p : Goal} {x n : ℕ} {r : Answer} → Bounded g line l p x r n → Held l → Goes p x r
+  pub spans : {l : List Note} {p : Goal} {x : ℕ} {n : Amount} {r : Answer} → Bounded g line l p x r n → Held l → Goes p x r
   spans R.empty1 f = still of-empty
   spans (R.char1 {lo = lo} {hi = hi} {x = x} q) f =
       let z : x < length line = fits-inside line lo hi x q in record { forward = omega arith; inside = λ h. omega arith; empty = λ h. absurd (omega arith) }

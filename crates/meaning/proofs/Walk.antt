@@ -8,7 +8,7 @@ use mathlib.Core.List.{List}
 use lib.Dec.{eqb}
 use borrow.Author.Tests.{eqb-true, eqb-false}
 use Rattle.meaning.specs.Grammar.{Node, empty, range, rule, seq, choice, not, rep, Grammar, node, Trees, no-trees, _⋈_, Answer, fail, ok, fits}
-use Rattle.meaning.specs.Reading.{State, Run, Visit, after, byte, joined, second, otherwise, denied, repeatFrom, repeated, apply}
+use Rattle.meaning.specs.Reading.{State, asked, Run, Visit, after, byte, joined, second, otherwise, denied, repeatFrom, repeated, apply}
 use Rattle.meaning.proofs.Runs.{Ends, ends-after, ends-map}
 
 -- The answer of a second visit, with the first's trees before its own.
@@ -16,11 +16,11 @@ abbrev pub join : Trees → Answer → Answer
 join ts fail = fail
 join ts (ok e us) = ok e (ts ⋈ us)
 
--- A node that visits none, at x, and its answer.
-pub data Leaf (line : List ℕ) (x : ℕ) : Node → Answer → Type 0 where
-  empty1 : Leaf line x empty (ok x no-trees)
-  char1 : {lo hi : ℕ} → fits line lo hi x ≡ true → Leaf line x (range lo hi) (ok (suc x) no-trees)
-  char2 : {lo hi : ℕ} → fits line lo hi x ≡ false → Leaf line x (range lo hi) fail
+-- A node that visits none, at x from the state s: its answer, and the state that it hands on.
+pub data Leaf (line : List ℕ) (x : ℕ) (s : State) : Node → Answer → State → Type 0 where
+  empty1 : Leaf line x s empty (ok x no-trees) s
+  char1 : {lo hi : ℕ} → fits line lo hi x ≡ true → Leaf line x s (range lo hi) (ok (suc x) no-trees) (asked x s)
+  char2 : {lo hi : ℕ} → fits line lo hi x ≡ false → Leaf line x s (range lo hi) fail (asked x s)
 
 -- The node that a node visits first, at its own position.
 pub data First : Node → ℕ → Type 0 where
@@ -51,7 +51,7 @@ pub data Refusal : Type 0 where
 -- By numbers of nodes and rules, from one state to another. C is to hold of a visit that a node makes, U of a use that it makes, and then W of the node's
 -- application, where they are done; C′, U′ and W′ where they are refused.
 pub record Laws (g : Grammar) (line : List ℕ) (C U W : ℕ → ℕ → State → Answer → State → Type 0) (C′ U′ W′ : Refusal → ℕ → ℕ → State → State → Type 0) : Type 0 where
-  pub leaf : (i x : ℕ) (r : Answer) (s : State) → Leaf line x (node g i) r → W i x s r s
+  pub leaf : (i x : ℕ) (r : Answer) (s t : State) → Leaf line x s (node g i) r t → W i x s r t
   pub uses : (i a x : ℕ) (r : Answer) (s t : State) → node g i ≡ rule a → U a x s r t → W i x s r t
   pub one : (i x a : ℕ) (r q : Answer) (s t : State) → First (node g i) a → Settled x (node g i) r q → C a x s r t → W i x s q t
   pub two : (i x a b y : ℕ) (r q : Answer) (f : Answer → Answer) (s t u : State) → First (node g i) a → Second i x (node g i) r b y f
@@ -114,15 +114,15 @@ module _ {g : Grammar} {line : List ℕ} {C U W : ℕ → ℕ → State → Answ
       by-end true q = laws .one i x a (ok y ts) (ok x no-trees) s t (rw e of-rep) (rw e (rep3 (eqb-true x y q))) h
       by-end false q = on i x a i y ts s t (rw e of-rep) (rw e (rep2 (eqb-false x y q))) h
 
-  of-byte : (i x lo hi : ℕ) (s : State) → node g i ≡ range lo hi → (b : Bool) → fits line lo hi x ≡ b → W i x s (byte x b) s
+  of-byte : (i x lo hi : ℕ) (s : State) → node g i ≡ range lo hi → (b : Bool) → fits line lo hi x ≡ b → W i x s (byte x b) (asked x s)
   unfolding byte
-  of-byte i x lo hi s e true q = laws .leaf i x (ok (suc x) no-trees) s (rw e (char1 q))
-  of-byte i x lo hi s e false q = laws .leaf i x fail s (rw e (char2 q))
+  of-byte i x lo hi s e true q = laws .leaf i x (ok (suc x) no-trees) s (asked x s) (rw e (char1 q))
+  of-byte i x lo hi s e false q = laws .leaf i x fail s (asked x s) (rw e (char2 q))
 
   module _ (u : Visit) (hu : (a x : ℕ) (s : State) → Ends (U′ by-effort a x s) (U′ by-depth a x s) (U a x s) (u a x s)) where
     walk-as : (i x : ℕ) (s : State) (p : Node) → node g i ≡ p → Walked i x s (apply line v u i x s p)
     unfolding apply
-    walk-as i x s empty e = laws .leaf i x (ok x no-trees) s (rw e empty1)
+    walk-as i x s empty e = laws .leaf i x (ok x no-trees) s s (rw e empty1)
     walk-as i x s (range lo hi) e = of-byte i x lo hi s e (fits line lo hi x) refl
     walk-as i x s (rule a) e =
         ends-map (u a x s) (hu a x s) (λ t h. laws .uses-refused by-effort i a x s t e h) (λ t h. laws .uses-refused by-depth i a x s t e h)

@@ -1,5 +1,5 @@
 -- 01, "How a line is read": the limited reading, visit by visit.
-use Prim.Native.Nat.{ℕ, zero, suc, _-_}
+use Prim.Native.Nat.{ℕ, zero, suc, _-_, max}
 use mathlib.Core.Bool.{Bool, true, false}
 use mathlib.Core.List.{List, []}
 use mathlib.Core.Option.{Option, none, some}
@@ -7,10 +7,26 @@ use lib.Dec.{ltb, eqb}
 use Rattle.meaning.specs.Grammar.{Node, empty, range, rule, seq, choice, not, rep, Grammar, node, rootOf, Trees, no-trees, _⋈_, Answer, fail, ok, wrap, fits, Note, noted, look}
 use Rattle.meaning.specs.Decide.{isFree}
 
--- What a visit hands on: the visits left of the allowance, and the kept answers of (node, position).
+-- What a visit hands on: the visits left of the allowance, the kept answers of (node, position), and, by 02's W-203, "the largest position at which a range node
+-- was visited, 0 if none was".
 pub record State : Type 0 where
   pub left : ℕ
   pub kept : List Note
+  pub furthest : ℕ
+
+-- Where a reading begins, with so many visits allowed.
+abbrev pub starting : ℕ → State
+starting allowance = record { left = allowance; kept = []; furthest = 0 }
+
+-- So many visits are left; a finished pair is kept; a range is visited at x.
+abbrev pub spent : ℕ → State → State
+spent l s = record { left = l; kept = s .kept; furthest = s .furthest }
+
+abbrev pub keeping : ℕ → ℕ → Answer → State → State
+keeping i x r s = record { left = s .left; kept = noted i x r (s .kept); furthest = s .furthest }
+
+abbrev pub asked : ℕ → State → State
+asked x s = record { left = s .left; kept = s .kept; furthest = max (s .furthest) x }
 
 -- The visits made, of those allowed.
 abbrev pub made : ℕ → State → ℕ
@@ -80,7 +96,7 @@ wrapped a x r s = done (wrap a x r) s
 -- One node's application at x: v visits its children and, for a repetition, node i itself; u uses a rule.
 unfoldable pub apply : List ℕ → Visit → Visit → ℕ → ℕ → State → Node → Run
 apply line v u i x s empty = done (ok x no-trees) s
-apply line v u i x s (range lo hi) = done (byte x (fits line lo hi x)) s
+apply line v u i x s (range lo hi) = done (byte x (fits line lo hi x)) (asked x s)
 apply line v u i x s (rule a) = u a x s
 apply line v u i x s (seq a b) = after (v a x s) (second v b)
 apply line v u i x s (choice a b) = after (v a x s) (otherwise v b x)
@@ -115,12 +131,12 @@ useLive v a x s (some r) = done (wrap a x r) s
 
 -- 01: "Each finished pair (node, position) is kept".
 unfoldable pub keep : ℕ → ℕ → Answer → State → Run
-keep i x r s = done r (record { left = s .left; kept = noted i x r (s .kept) })
+keep i x r s = done r (keeping i x r s)
 
 -- 01: "Before each visit: if the visits made already equal the allowance, EFFORT". The first number is the visits left; k makes the visit.
 unfoldable pub counted : ℕ → ℕ → State → (State → Run) → Run
 counted zero x s k = effort x s
-counted (suc l) x s k = k (record { left = l; kept = s .kept })
+counted (suc l) x s k = k (spent l s)
 
 module _ (g : Grammar) (line : List ℕ) where
   -- A use of a rule, in a grammar that is free or not; v visits, given the live uses.
@@ -145,7 +161,7 @@ module _ (g : Grammar) (line : List ℕ) where
 
   -- 01: "The reading is a use of rule 0 at position 0; that use is not itself a visit."
   unfoldable pub readBy : Bool → ℕ → Run
-  readBy free allowance = useRule free (visit free 512) [] 0 0 (record { left = allowance; kept = [] })
+  readBy free allowance = useRule free (visit free 512) [] 0 0 (starting allowance)
 
   -- 01: "Free grammars." and "All others."
   unfoldable pub read : ℕ → Run

@@ -4,47 +4,51 @@ use mathlib.Core.Bool.{Bool, true}
 use mathlib.Core.List.{List, [], _∷_}
 use Prim.Native.Nat.{ℕ, _+_, _*_, _<_, _≤_}
 use native.Mathlib.Omega.{arith}
-use lib.ListN.{length, getD, set, length-set}
-use lib.Seq.{getD-set-same, getD-set-other, sets, length-sets}
+use lib.ListN.{length, getD}
+use lib.Seq.{sets, length-sets}
 use lib.Dec.{ltb}
 use Rattle.meaning.specs.Grammar.{fail, ok, look}
-use Rattle.meaning.specs.Reading.{State, Run, effort, deep, done, visit, useRule, readBy, read}
+use Rattle.meaning.specs.Reading.{starting, Run, effort, deep, done, visit, useRule, readBy, read}
+use Rattle.meaning.proofs.Sets.{sets-apart, sets-at}
 use Rattle.layout.specs.Table.{nodesOf, rulesOf, nodeAt, grammarOf}
 use Rattle.layout.proofs.Laying.{well-laid}
 use Rattle.sheet.proofs.Accepting.{laid}
 use Rattle.cells.specs.Arena.{Arena}
 use Rattle.cells.proofs.Frame.{arena-below}
 use Rattle.visits.specs.Given.{Given, lent, nodesIn, rootIn, keepsIn, baseIn, roomIn, Fit}
-use Rattle.visits.specs.Words.{topIn, madeIn, placeIn, keptAs, keptAt, Stands, Words}
+use Rattle.visits.specs.Words.{topIn, madeIn, furthestIn, placeIn, keptAs, keptAt, Stands, Words}
 use Rattle.visits.specs.Says.{Visited, Starts, Ends, Says, Came, after-visit, uses}
 use Rattle.visits.proofs.Frame.{pair-in}
 use Rattle.visits.proofs.Ready.{root-in}
 use Rattle.reader.specs.Answer.{workNeeded}
 use Rattle.reader.specs.Steps.{Startable, Tells, Visiting}
 
--- The state before the first visit.
-abbrev first : ℕ → State
-first allowance = record { left = allowance; kept = [] }
-
 pub some-rule : {table line w : List ℕ} {allowance : ℕ} {free : Bool} → Startable table line w allowance free → 0 < rulesOf table
 some-rule {table} s = well-laid table (laid table (s .fitting .accepted)) .some-rule
 
--- From the words w₀, with no cell in use and no visit made.
-module _ (table line w₀ w : List ℕ) (allowance flag at : ℕ) (free : Bool) (s : Startable table line w₀ allowance free) (ef : ltb 0 flag ≡ free) (ea : at ≡ nodeAt (rulesOf table) 0) (ew : w ≡ sets w₀ 2042 (0 ∷ 0 ∷ [])) where
+-- From the words w₀, with no cell in use, no visit made and no range visited.
+module _ (table line w₀ w : List ℕ) (allowance flag at : ℕ) (free : Bool) (s : Startable table line w₀ allowance free) (ef : ltb 0 flag ≡ free) (ea : at ≡ nodeAt (rulesOf table) 0) (ew : w ≡ sets w₀ 2042 (0 ∷ 0 ∷ 0 ∷ [])) where
   abbrev given : Given
   given = lent table (allowance ∷ flag ∷ at ∷ [])
 
   long : length w ≡ length w₀
-  long = ap length ew ∙ length-sets w₀ 2042 (0 ∷ 0 ∷ [])
+  long = ap length ew ∙ length-sets w₀ 2042 (0 ∷ 0 ∷ 0 ∷ [])
+
+  -- Each of the three words is zero, by its place among them.
+  zeroed : (k : ℕ) → k < 3 → getD w (2042 + k) 0 ≡ getD (0 ∷ 0 ∷ 0 ∷ []) k 0
+  zeroed k h = let l = s .arena .long in ap (λ v. getD v (2042 + k) 0) ew ∙ sets-at (0 ∷ 0 ∷ 0 ∷ []) w₀ 2042 k h (omega arith)
 
   no-cell : topIn w ≡ 0
-  no-cell = let l = s .arena .long in ap topIn ew ∙ getD-set-other (set w₀ 2042 0) 2043 2042 0 0 (omega arith) ∙ getD-set-same w₀ 2042 0 0 (omega arith)
+  no-cell = zeroed 0 (omega arith)
 
   no-visit : madeIn w ≡ 0
-  no-visit = let l = s .arena .long in ap madeIn ew ∙ getD-set-same (set w₀ 2042 0) 2043 0 0 (omega (arith, length-set w₀ 2042 0))
+  no-visit = zeroed 1 (omega arith)
 
-  above : (i : ℕ) → 2044 ≤ i → getD w i 0 ≡ getD w₀ i 0
-  above i h = ap (λ l. getD l i 0) ew ∙ getD-set-other (set w₀ 2042 0) 2043 i 0 0 (omega arith) ∙ getD-set-other w₀ 2042 i 0 0 (omega arith)
+  no-range : furthestIn w ≡ 0
+  no-range = zeroed 2 (omega arith)
+
+  above : (i : ℕ) → 2045 ≤ i → getD w i 0 ≡ getD w₀ i 0
+  above i h = ap (λ l. getD l i 0) ew ∙ sets-apart (0 ∷ 0 ∷ 0 ∷ []) w₀ 2042 i (λ l. omega arith)
 
   fit : Fit given line
   fit = record { laid = laid _ (s .fitting .accepted); first = ea; short = s .fitting .short; allowance = s .fitting .allowed }
@@ -58,7 +62,7 @@ module _ (table line w₀ w : List ℕ) (allowance flag at : ℕ) (free : Bool) 
       let l = long in
       record {
         room = omega arith;
-        arena = subst (λ l. Arena l 0) (sym ew) (arena-below w₀ 0 2042 (0 ∷ 0 ∷ []) (omega arith) (s .arena));
+        arena = subst (λ l. Arena l 0) (sym ew) (arena-below w₀ 0 2042 (0 ∷ 0 ∷ 0 ∷ []) (omega arith) (s .arena));
         held-lists = λ i h. absurd (omega arith);
         held-ends = λ i h. absurd (omega arith);
         kept-lists = λ k j h. let z = zero-at k (baseIn given + j * 2 + 1) (omega arith) (omega arith) in omega arith;
@@ -82,26 +86,26 @@ module _ (table line w₀ w : List ℕ) (allowance flag at : ℕ) (free : Bool) 
       let z : getD w (placeIn given line i x) 0 ≡ 0 = zero-at k _ (omega arith) (let q = pair-in given line i x li lx in omega arith) in
       rw z refl
 
-  stands : Stands given line w 0 0 [] (first allowance)
-  stands = record { lives = refl; left = omega arith; kept = none-kept }
+  stands : Stands given line w 0 0 [] (starting allowance)
+  stands = record { lives = refl; left = omega arith; furthest = sym no-range; kept = none-kept }
 
   -- The use of rule 0 is 01's reading.
-  run-is : uses given line 512 [] 0 0 (first allowance) ≡ read (grammarOf table) line allowance
+  run-is : uses given line 512 [] 0 0 (starting allowance) ≡ read (grammarOf table) line allowance
   unfolding read readBy
-  run-is = ap (λ b. useRule (grammarOf table) line b (visit (grammarOf table) line b 512) [] 0 0 (first allowance)) (ef ∙ s .free-is)
+  run-is = ap (λ b. useRule (grammarOf table) line b (visit (grammarOf table) line b 512) [] 0 0 (starting allowance)) (ef ∙ s .free-is)
 
   told : (w′ : List ℕ) (v : Visited) (m : Run) → Says given line w′ 0 [] v m → Tells allowance (length line) w′ v m
-  told w′ v (effort q t) h = record { end = h .end; list = h .list; small = h .small; left = h .left }
-  told w′ v (deep q t) h = record { end = h .end; list = h .list; small = h .small; left = h .left }
-  told w′ v (done fail t) h = record { at = h .end; left = h .stands .left }
-  told w′ v (done (ok e ts) t) h = (h .0, h .1 .inside, record { at = h .1 .end; left = h .1 .stands .left })
+  told w′ v (effort q t) h = record { end = h .end; list = h .list; small = h .small; left = h .left; furthest = h .furthest }
+  told w′ v (deep q t) h = record { end = h .end; list = h .list; small = h .small; left = h .left; furthest = h .furthest }
+  told w′ v (done fail t) h = record { at = h .end; left = h .stands .left; furthest = h .stands .furthest }
+  told w′ v (done (ok e ts) t) h = (h .0, h .1 .inside, record { at = h .1 .end; left = h .1 .stands .left; furthest = h .1 .stands .furthest })
 
   module _ (w′ : List ℕ) (r : ℕ) (e : Ends given line w w′ 512 r (λ l t. uses given line 512 l 0 0 t)) where
     came : Came given line w w′ 0 0 0 (after-visit r w′) (λ l t. uses given line 512 l 0 0 t)
     came = rw (no-visit, no-cell) at e .came
 
     pub tells : Tells allowance (length line) w′ (after-visit r w′) (read (grammarOf table) line allowance)
-    tells = subst (Tells allowance (length line) w′ (after-visit r w′)) run-is (told w′ (after-visit r w′) (uses given line 512 [] 0 0 (first allowance)) (came .says [] (first allowance) stands))
+    tells = subst (Tells allowance (length line) w′ (after-visit r w′)) run-is (told w′ (after-visit r w′) (uses given line 512 [] 0 0 (starting allowance)) (came .says [] (starting allowance) stands))
 
     pub visiting : Visiting allowance (length line) (workNeeded allowance (nodesOf table) (length line)) w₀ w′ (after-visit r w′)
     visiting = record {

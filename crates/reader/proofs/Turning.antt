@@ -21,22 +21,22 @@ use Rattle.reader.specs.Answer.{LINE, ALLOW, WORK, longestLine, mostAllo
 use Rattle.reader.specs.Steps.{Filled, Fitting, Startable}
 
 module _ (whole : Bool) (table line : List ℕ) (allowance : ℕ) (work room : List ℕ) where
-  pub by-check : 0 < checkOf table .code → Leaves (readingOf whole table line allowance work room) (numbers (checkOf table .code) (checkOf table .place) 0 0 0) work room
+  pub by-check : 0 < checkOf table .code → Leaves (readingOf whole table line allowance work room) (numbers (checkOf table .code) (checkOf table .place) 0 0 0 0) work room
   unfolding readingOf
   by-check h = rw (lt-ltb 0 (checkOf table .code) h) (record { returned = refl; working = refl; stored = refl })
 
   module _ (accepted : checkOf table .code ≡ 0) where
-    pub by-line : longestLine < length line → Leaves (readingOf whole table line allowance work room) (numbers LINE 0 0 0 0) work room
+    pub by-line : longestLine < length line → Leaves (readingOf whole table line allowance work room) (numbers LINE 0 0 0 0 0) work room
     unfolding readingOf
     by-line h = rw (accepted, lt-ltb longestLine (length line) h) (record { returned = refl; working = refl; stored = refl })
 
     module _ (short : length line ≤ longestLine) where
-      pub by-none : allowance ≡ 0 → Leaves (readingOf whole table line allowance work room) (numbers ALLOW 0 0 0 0) work room
+      pub by-none : allowance ≡ 0 → Leaves (readingOf whole table line allowance work room) (numbers ALLOW 0 0 0 0 0) work room
       unfolding readingOf
       by-none e = rw (accepted, le-ltb longestLine (length line) short, eq-eqb allowance 0 e) (record { returned = refl; working = refl; stored = refl })
 
       module _ (some : allowance ≢ 0) where
-        pub by-allowance : mostAllowance < allowance → Leaves (readingOf whole table line allowance work room) (numbers ALLOW 0 0 0 0) work room
+        pub by-allowance : mostAllowance < allowance → Leaves (readingOf whole table line allowance work room) (numbers ALLOW 0 0 0 0 0) work room
         unfolding readingOf
         by-allowance h = rw (accepted, le-ltb longestLine (length line) short, ne-eqb allowance 0 some, lt-ltb mostAllowance allowance h) (record { returned = refl; working = refl; stored = refl })
 
@@ -44,7 +44,7 @@ module _ (whole : Bool) (table line : List ℕ) (allowance : ℕ) (work room : L
           abbrev needed : ℕ
           needed = workNeeded allowance (nodesOf table) (length line)
 
-          pub by-work : length work < needed → Leaves (readingOf whole table line allowance work room) (numbers WORK 0 0 0 0) work room
+          pub by-work : length work < needed → Leaves (readingOf whole table line allowance work room) (numbers WORK 0 0 0 0 0) work room
           unfolding readingOf
           by-work h =
               rw (accepted, le-ltb longestLine (length line) short, ne-eqb allowance 0 some, le-ltb mostAllowance allowance allowed, lt-ltb (length work) needed h)

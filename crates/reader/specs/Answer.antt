@@ -1,4 +1,4 @@
--- 01, "What comes back": the five numbers of a reading, and what it leaves in the working numbers and in the room.
+-- 01, "What comes back": the numbers of a reading, with the one that 02's W-203 adds, and what it leaves in the working numbers and in the room.
 use Prim.Native.Nat.{ℕ, _+_, _*_}
 use mathlib.Core.Path.{_≡_}
 use mathlib.Core.Bool.{Bool, _&&_, _||_, cond}
@@ -49,31 +49,31 @@ pub record Outcome : Type 0 where
   pub work : List ℕ
   pub room : List ℕ
 
-abbrev pub numbers : (code place matched visits records : ℕ) → Reading
-numbers code place matched visits records = record { code = code; place = place; matched = matched; visits = visits; records = records }
+abbrev pub numbers : (code place matched visits records furthest : ℕ) → Reading
+numbers code place matched visits records furthest = record { code = code; place = place; matched = matched; visits = visits; records = records; furthest = furthest }
 
 -- 01: "the first numbers of the working room, as many as the formula says, are zero and the rest as found".
 unfoldable pub cleared : ℕ → List ℕ → List ℕ
 cleared k work = replicate k 0 ++ drop k work
 
--- Where rule 0 matched up to e with the tree ts, after so many visits. 01's rows 14, 15, 16 and 0.
-unfoldable pub matchOutcome : (whole : Bool) (long e : ℕ) → Trees → (visits : ℕ) → (work room : List ℕ) → Outcome
-matchOutcome whole long e ts visits work room =
-    cond (whole && ltb e long) (record { reading = numbers REST e e visits 0; work = work; room = room })
-    (cond (ltb mostRecords (recordsOf ts)) (record { reading = numbers RECORDS e e visits (mostRecords + 1); work = work; room = room })
-    (cond (ltb (length room) (storedLength positionWidth (recordsOf ts))) (record { reading = numbers ROOM e e visits (recordsOf ts); work = work; room = room })
-    (record { reading = numbers 0 0 e visits (recordsOf ts); work = work; room = storedOf positionWidth ts ++ drop (storedLength positionWidth (recordsOf ts)) room })))
+-- Where rule 0 matched up to e with the tree ts, after so many visits, with the furthest position reached. 01's rows 14, 15, 16 and 0.
+unfoldable pub matchOutcome : (whole : Bool) (long e : ℕ) → Trees → (visits furthest : ℕ) → (work room : List ℕ) → Outcome
+matchOutcome whole long e ts visits furthest work room =
+    cond (whole && ltb e long) (record { reading = numbers REST e e visits 0 furthest; work = work; room = room })
+    (cond (ltb mostRecords (recordsOf ts)) (record { reading = numbers RECORDS e e visits (mostRecords + 1) furthest; work = work; room = room })
+    (cond (ltb (length room) (storedLength positionWidth (recordsOf ts))) (record { reading = numbers ROOM e e visits (recordsOf ts) furthest; work = work; room = room })
+    (record { reading = numbers 0 0 e visits (recordsOf ts) furthest; work = work; room = storedOf positionWidth ts ++ drop (storedLength positionWidth (recordsOf ts)) room })))
 
--- How a reading ended, by 01's rows 11 to 16 and 0; visits is the number made.
+-- How a reading ended, by 01's rows 11 to 16 and 0; visits is the number made, furthest the largest position at which a range was visited.
 unfoldable pub runOutcome : (whole : Bool) (long allowance : ℕ) → Run → (work room : List ℕ) → Outcome
-runOutcome whole long allowance (effort p s) work room = record { reading = numbers EFFORT p 0 (made allowance s) 0; work = work; room = room }
-runOutcome whole long allowance (deep p s) work room = record { reading = numbers DEEP p 0 (made allowance s) 0; work = work; room = room }
-runOutcome whole long allowance (done fail s) work room = record { reading = numbers FAIL 0 0 (made allowance s) 0; work = work; room = room }
-runOutcome whole long allowance (done (ok e ts) s) work room = matchOutcome whole long e ts (made allowance s) work room
+runOutcome whole long allowance (effort p s) work room = record { reading = numbers EFFORT p 0 (made allowance s) 0 (s .furthest); work = work; room = room }
+runOutcome whole long allowance (deep p s) work room = record { reading = numbers DEEP p 0 (made allowance s) 0 (s .furthest); work = work; room = room }
+runOutcome whole long allowance (done fail s) work room = record { reading = numbers FAIL 0 0 (made allowance s) 0 (s .furthest); work = work; room = room }
+runOutcome whole long allowance (done (ok e ts) s) work room = matchOutcome whole long e ts (made allowance s) (s .furthest) work room
 
 -- 01: "Codes 1 to 10 return zeros else and change nothing." So does LOOP, which the check gives.
 abbrev pub turnedAway : (code place : ℕ) → (work room : List ℕ) → Outcome
-turnedAway code place work room = record { reading = numbers code place 0 0 0; work = work; room = room }
+turnedAway code place work room = record { reading = numbers code place 0 0 0 0; work = work; room = room }
 
 -- 01's table of codes, in its order, with LOOP among the check's; whole asks for the whole line.
 unfoldable pub readingOf : (whole : Bool) (table line : List ℕ) (allowance : ℕ) (work room : List ℕ) → Outcome

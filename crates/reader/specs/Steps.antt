@@ -11,6 +11,7 @@ use Rattle.layout.specs.Table.{nodesOf, grammarOf}
 use Rattle.sheet.specs.Check.{Accepted}
 use Rattle.cells.specs.Cells.{treesAt}
 use Rattle.cells.specs.Arena.{Arena}
+use Rattle.visits.specs.Words.{furthestIn}
 use Rattle.visits.specs.Says.{FAILED, STOPPED, Visited, Refused}
 use Rattle.reader.specs.declared.Reading.{Reading}
 use Rattle.reader.specs.Answer.{EFFORT, DEEP, longestLine, mostAllowance, workNeeded, runOutcome, Leaves}
@@ -35,16 +36,17 @@ pub record Startable (table line work : List ℕ) (allowance : ℕ) (free : Bool
   pub arena : Arena work 0
   pub kept : free ≡ true → (i : ℕ) → 2048 + 4 * allowance ≤ i → i < workNeeded allowance (nodesOf table) (length line) → getD work i 0 ≡ 0
 
-pub record Ended (allowance end : ℕ) (v : Visited) (s : State) : Type 0 where
+pub record Ended (allowance end : ℕ) (w : List ℕ) (v : Visited) (s : State) : Type 0 where
   pub at : v .end ≡ end
   pub left : s .left + v .made ≡ allowance
+  pub furthest : s .furthest ≡ furthestIn w
 
 -- A result tells how a run on a line of so many bytes ended.
 abbrev pub Tells : (allowance long : ℕ) (w : List ℕ) (v : Visited) → Run → Type 0
-Tells allowance long w v (effort p s) = Refused allowance v EFFORT p s
-Tells allowance long w v (deep p s) = Refused allowance v DEEP p s
-Tells allowance long w v (done fail s) = Ended allowance FAILED v s
-Tells allowance long w v (done (ok e ts) s) = (treesAt w (v .list) ≡ ts) × (e ≤ long) × Ended allowance e v s
+Tells allowance long w v (effort p s) = Refused allowance w v EFFORT p s
+Tells allowance long w v (deep p s) = Refused allowance w v DEEP p s
+Tells allowance long w v (done fail s) = Ended allowance FAILED w v s
+Tells allowance long w v (done (ok e ts) s) = (treesAt w (v .list) ≡ ts) × (e ≤ long) × Ended allowance e w v s
 
 -- After the visits: the cells are in order, the numbers small, and what lies past the room is as it was.
 pub record Visiting (allowance long needed : ℕ) (old new : List ℕ) (v : Visited) : Type 0 where

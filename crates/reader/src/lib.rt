@@ -1,7 +1,7 @@
 // The prefix and the whole-line reading of a line by a sheet's table.
 //
 // In go the table, the line, the allowance, working numbers and room for the stored reading; out come code, place, matched length, visits and
-// records, exactly as 01's table of codes has them (specs/Answer, readingOf). No table, line, allowance or buffer is asked to be good: each
+// records, exactly as 01's table of codes has them, and the furthest position at which a range was visited (specs/Answer, readingOf). No table, line, allowance or buffer is asked to be good: each
 // refusal is an answer. Codes 1 to 10 and 17 change nothing; else the first working numbers, as many as 01's formula says, are zero, and only a
 // reading (code 0) writes the room: the stored reading at its front.
 // The reader relies on the check's promise alone for every node that it visits.
@@ -24,6 +24,7 @@ pub struct Reading {
     pub matched: u64,
     pub visits: u64,
     pub records: u64,
+    pub furthest: u64,
 }
 
 pub const LONGEST_LINE: usize = 255;
@@ -96,6 +97,7 @@ fn finish(line: &[u8], work: &[u32], room: &mut [u8], whole: bool, answer: u64) 
     ensures { λ r. ⌜ Finished whole (length (now (line .entry))) (now (work .entry)) (after-visit answer (now (work .entry))) r (now (room .entry)) (now (room .exit)) ⌝ }
 {
     let made = visits::visits_made(work) as u64;
+    let furthest = visits::furthest_visited(work) as u64;
     let last = visits::end_of(answer);
     let list = visits::list_of(answer);
     if last == visits::STOPPED {
@@ -107,6 +109,7 @@ fn finish(line: &[u8], work: &[u32], room: &mut [u8], whole: bool, answer: u64) 
             matched: 0,
             visits: made,
             records: 0,
+            furthest: furthest,
         };
     }
     if last == visits::FAILED {
@@ -116,6 +119,7 @@ fn finish(line: &[u8], work: &[u32], room: &mut [u8], whole: bool, answer: u64) 
             matched: 0,
             visits: made,
             records: 0,
+            furthest: furthest,
         };
     }
     let end = last as u64;
@@ -126,6 +130,7 @@ fn finish(line: &[u8], work: &[u32], room: &mut [u8], whole: bool, answer: u64) 
             matched: end,
             visits: made,
             records: 0,
+            furthest: furthest,
         };
     }
     let records = cells::records_of(work, list);
@@ -136,6 +141,7 @@ fn finish(line: &[u8], work: &[u32], room: &mut [u8], whole: bool, answer: u64) 
             matched: end,
             visits: made,
             records: 1001,
+            furthest: furthest,
         };
     }
     if room.len() < 5 + 5 * records as usize {
@@ -145,6 +151,7 @@ fn finish(line: &[u8], work: &[u32], room: &mut [u8], whole: bool, answer: u64) 
             matched: end,
             visits: made,
             records: records as u64,
+            furthest: furthest,
         };
     }
     cells::write(work, room, 1, list);
@@ -154,6 +161,7 @@ fn finish(line: &[u8], work: &[u32], room: &mut [u8], whole: bool, answer: u64) 
         matched: end,
         visits: made,
         records: records as u64,
+        furthest: furthest,
     }
 }
 
@@ -193,7 +201,7 @@ fn read_line(
 
 // A refusal before the line is read: zeros else.
 fn turned_away(code: u64, place: u64) -> Reading
-    ensures { λ r. ⌜ r ≡ numbers code place 0 0 0 ⌝ }
+    ensures { λ r. ⌜ r ≡ numbers code place 0 0 0 0 ⌝ }
 {
     Reading {
         code: code,
@@ -201,6 +209,7 @@ fn turned_away(code: u64, place: u64) -> Reading
         matched: 0,
         visits: 0,
         records: 0,
+        furthest: 0,
     }
 }
 

@@ -3,19 +3,20 @@ use mathlib.Core.Path.{_≡_, refl, sym, ap, _∙_}
 use mathlib.Core.Logic.{_≢_}
 use mathlib.Core.Bool.{Bool, true, false}
 use mathlib.Core.List.{List}
-use Prim.Native.Nat.{ℕ, zero, suc, _+_, _<_, _≤_}
+use Prim.Native.Nat.{ℕ, zero, suc, _+_, _*_, _<_, _≤_, max}
 use native.Mathlib.Omega.{arith}
 use lib.ListN.{length}
 use lib.Dec.{ltb}
 use borrow.Author.Tests.{lt-ltb, le-ltb}
 use Rattle.meaning.specs.Grammar.{fits}
 use Rattle.meaning.specs.Reading.{Run, byte, after, second, otherwise, denied, repeated, wrapped, apply, useRule}
-use Rattle.visits.specs.Given.{Given, kindIn, aIn, bIn, rootIn, nodesIn, rulesIn, keepsIn, allowanceIn, grammarIn, Fit}
-use Rattle.visits.specs.Words.{Words}
-use Rattle.visits.specs.Says.{Visited, FAILED, Came, reading, uses, grows, applies, endOf}
-use Rattle.visits.proofs.Steps.{came-as}
+use Rattle.visits.specs.Given.{Given, kindIn, aIn, bIn, rootIn, nodesIn, rulesIn, keepsIn, allowanceIn, grammarIn, leftIn, liveIn, posIn, Fit}
+use Rattle.visits.specs.Words.{topIn, madeIn, furthestIn, reachedIn, Words}
+use Rattle.visits.specs.Says.{Visited, FAILED, Came, reading, uses, grows, applies, endOf, endIn, listIn, Ranges, Starts, Ends}
+use Rattle.visits.proofs.Frame.{written-top, written-words, reach-made}
+use Rattle.visits.proofs.Steps.{came-as, came-at}
 use Rattle.visits.proofs.Nodes.{result, match-still}
-use Rattle.visits.proofs.Entering.{range-in, range-out}
+use Rattle.visits.proofs.Entering.{came-reached, range-in, range-out}
 use Rattle.visits.proofs.Ready.{root-is, below-as, applied-as, rules-are}
 
 module _ (given : Given) (line : List ℕ) (fit : Fit given line) where
@@ -70,9 +71,12 @@ module _ (given : Given) (line : List ℕ) (fit : Fit given line) where
         let e : kindIn given i ≡ suc (suc (suc (suc (suc (suc (suc n)))))) = k ∙ (let z : 7 + n ≡ suc (suc (suc (suc (suc (suc (suc n)))))) = omega arith in z) in
         applied-as given line fit i _ li e left pos (match-still given line fit words le pos inside)
 
-    pub apply-range : kindIn given i ≡ 1 → Came given line w w live made top (result (endOf (byte pos (fits line (aIn given i) (bIn given i) pos))) 0 top made) (λ l s. applies given line left l i pos s)
+    apply-range : live * 3 ≤ 2042 → kindIn given i ≡ 1
+        → Came given line w (reachedIn w pos) live made top (result (endOf (byte pos (fits line (aIn given i) (bIn given i) pos))) 0 top made) (λ l s. applies given line left l i pos s)
     unfolding apply
-    apply-range k = applied-as given line fit i 1 li k left pos (range-came (aIn given i) (bIn given i) pos _ words le refl)
+    apply-range few k =
+        applied-as given line fit i 1 li k left pos
+        (came-reached given line fit pos few words (range-came (aIn given i) (bIn given i) pos _ (written-words given line 2044 (omega arith) (omega arith) w (max (furthestIn w) pos) few words) le refl))
 
   -- A use where answers are kept, and where they aren't.
   module _ {w w′ : List ℕ} {live made top : ℕ} {r : Visited} (left a pos : ℕ) where
@@ -105,6 +109,20 @@ module _ (given : Given) (line : List ℕ) (fit : Fit given line) where
 
     pub repetition-child : kindIn given i ≡ 6 → aIn given i < nodesIn given
     repetition-child k = let b = below-as given line fit i 6 li k in omega arith
+
+-- A range node is applied where a visit stands.
+pub range-ends : (given : Given) (line : List ℕ) {w w₁ : List ℕ} (spot i r : ℕ) → Starts given line w spot i (posIn spot) → kindIn given i ≡ 1 → Ranges given line i (posIn spot) r → w₁ ≡ reachedIn w (posIn spot)
+    → Ends given line w w₁ spot r (λ l s. applies given line (leftIn spot) l i (posIn spot) s)
+range-ends given line {w} spot i r ready kind range is =
+    let reached : List ℕ = reachedIn w (posIn spot) in
+    let top : topIn reached ≡ topIn w = written-top given line 2044 (omega arith) (omega arith) w (max (furthestIn w) (posIn spot)) in
+    let made : madeIn reached ≡ madeIn w = reach-made given line w (posIn spot) in
+    let few : liveIn spot * 3 ≤ 2042 = let o = ready .open-in in omega arith in
+    rw is (record {
+      came = came-at given line (ready .fit .short) (endIn r) (listIn r) (topIn reached) (madeIn reached) (range .0) (range .1) top made
+          (apply-range given line (ready .fit) (leftIn spot) i (posIn spot) (ready .node-in) (ready .words) (ready .made-in) few kind);
+      cells = omega (arith, top, made);
+    })
 
 -- Whether answers are kept, by the number that says so.
 pub keeps-yes : (x : ℕ) → x ≢ 0 → ltb 0 x ≡ true

@@ -10,7 +10,7 @@ use Rattle.meaning.specs.Reading.{State, Run}
 use Rattle.visits.specs.Given.{Given, allowanceIn, leftIn, liveIn, posIn, Moved}
 use Rattle.visits.specs.Words.{keyOf, topIn, madeIn, Words}
 use Rattle.visits.specs.Says.{Came, after-visit, reading, Starts, Ends, EndsVisit}
-use Rattle.visits.proofs.Frame.{count-words, count-top, count-made}
+use Rattle.visits.proofs.Frame.{written-words, written-top, count-made}
 use Rattle.visits.proofs.Living.{usePut, use-other}
 use Rattle.visits.proofs.Ready.{ready-live}
 
@@ -50,7 +50,7 @@ module _ (given : Given) (line : List ℕ) where
     long = let r = ready .words .room in omega arith
 
     pub counted-words : Words given line counted (liveIn spot) (topIn w)
-    counted-words = count-words given line w (liveIn spot) (topIn w) (madeIn w + 1) few (ready .words)
+    counted-words = written-words given line 2043 (omega arith) (omega arith) w (madeIn w + 1) few (ready .words)
 
     pub starts-open : Starts given line counted (spot - 1) node pos
     starts-open =
@@ -58,7 +58,7 @@ module _ (given : Given) (line : List ℕ) where
         let o = ready .open-in in
         let l = left-less spot some in
         let a : liveIn (spot - 1) ≡ liveIn spot = live-less spot some in
-        let b : topIn counted ≡ topIn w = count-top given line w (madeIn w + 1) in
+        let b : topIn counted ≡ topIn w = written-top given line 2043 (omega arith) (omega arith) w (madeIn w + 1) in
         let c : madeIn counted ≡ madeIn w + 1 = count-made given line w (madeIn w + 1) long in
         rw (a, b, c) (record { fit = ready .fit; words = counted-words; node-in = ready .node-in; pos-in = ready .pos-in; open-in = omega arith; made-in = omega arith; top-in = omega arith })
 
@@ -66,13 +66,13 @@ module _ (given : Given) (line : List ℕ) where
       pub came-open : Came given line counted w′ (liveIn spot) (madeIn w + 1) (topIn w) (after-visit r w′) m
       came-open =
           let a : liveIn (spot - 1) ≡ liveIn spot = live-less spot some in
-          let b : topIn counted ≡ topIn w = count-top given line w (madeIn w + 1) in
+          let b : topIn counted ≡ topIn w = written-top given line 2043 (omega arith) (omega arith) w (madeIn w + 1) in
           let c : madeIn counted ≡ madeIn w + 1 = count-made given line w (madeIn w + 1) long in
           rw (a, b, c) at e .came
 
       pub cells-open : topIn w′ + (madeIn w + 1) ≤ topIn w + madeIn w′
       cells-open =
-          let b : topIn counted ≡ topIn w = count-top given line w (madeIn w + 1) in
+          let b : topIn counted ≡ topIn w = written-top given line 2043 (omega arith) (omega arith) w (madeIn w + 1) in
           let c : madeIn counted ≡ madeIn w + 1 = count-made given line w (madeIn w + 1) long in
           omega (arith, e .cells)
 

@@ -1,19 +1,19 @@
 -- What the words stand for is not changed by a step that leaves them the same where it counts.
-use mathlib.Core.Path.{_≡_, refl, sym, _∙_}
+use mathlib.Core.Path.{_≡_, refl, sym, ap, _∙_}
 use mathlib.Core.Bool.{true}
 use mathlib.Core.List.{List, [], _∷_}
-use Prim.Native.Nat.{ℕ, _+_, _*_, _<_, _≤_}
+use Prim.Native.Nat.{ℕ, _+_, _*_, _<_, _≤_, max}
 use native.Mathlib.Nat.{mul-le-mul-right, mul-le-mul}
 use native.Mathlib.Omega.{arith}
 use lib.ListN.{length, getD, set, length-set}
 use lib.Seq.{getD-set-same, getD-set-other}
-use Rattle.meaning.specs.Reading.{State}
+use Rattle.meaning.specs.Reading.{State, asked}
 use Rattle.meaning.specs.Grammar.{Trees, Answer, Note}
 use Rattle.cells.specs.Cells.{treesAt}
 use Rattle.cells.proofs.Frame.{trees-same, arena-same}
 use Rattle.layout.proofs.Laying.{well-laid}
 use Rattle.visits.specs.Given.{Given, nodesIn, keepsIn, baseIn, allowanceIn, pairsIn, Fit}
-use Rattle.visits.specs.Words.{HeldAs, Entry, Lives, topIn, madeIn, placeIn, keptAs, keptAt, Stands, Words, Same, Added}
+use Rattle.visits.specs.Words.{HeldAs, Entry, Lives, topIn, madeIn, furthestIn, reachedIn, placeIn, keptAs, keptAt, Stands, Words, Same, Added}
 
 module _ (given : Given) (line : List ℕ) where
   pub same-none : (w : List ℕ) (live top : ℕ) → Same given line w w live top
@@ -67,15 +67,21 @@ module _ (given : Given) (line : List ℕ) where
         let le : getD old (placeIn given line i x + 1) 0 ≤ top = words .kept-lists free (i * (length line + 1) + x) (pair-in i x li lx) in
         kept-as _ _ _ _ (kept _ (omega arith)) (rw list (same-trees same (getD old (placeIn given line i x + 1) 0) le))
 
-    -- A step that leaves the kept answers too.
-    pub stands-same : {made : ℕ} {l : List Note} {s : State} → Stands given line old live made l s → Stands given line new live made l s
-    stands-same {made} {l} {s} h = record {
+    -- A step that leaves the kept answers too, with the furthest position that the words now hold.
+    stands-far : {made : ℕ} {l : List Note} {s : State} (far : ℕ) → far ≡ furthestIn new → Stands given line old live made l s
+        → Stands given line new live made l (record { left = s .left; kept = s .kept; furthest = far })
+    stands-far {l = l} far e h = record {
       lives = lives-same same live l (omega arith) (words .held-lists) (h .lives);
       left = h .left;
+      furthest = e;
       kept = λ free i x li lx. h .kept free i x li lx ∙ sym (kept-same free i x li lx);
     }
 
-  pub made-kept : {old new : List ℕ} {top list top′ : ℕ} {ts : Trees} → Fit given line → top < allowanceIn given → Added old new top list top′ ts → (i : ℕ) → baseIn given ≤ i → getD new i 0 ≡ getD old i 0
+    -- A step that leaves the furthest position too.
+    pub stands-same : furthestIn new ≡ furthestIn old → {made : ℕ} {l : List Note} {s : State} → Stands given line old live made l s → Stands given line new live made l s
+    stands-same far {s = s} h = stands-far (s .furthest) (h .furthest ∙ sym far) h
+
+  made-kept : {old new : List ℕ} {top list top′ : ℕ} {ts : Trees} → Fit given line → top < allowanceIn given → Added old new top list top′ ts → (i : ℕ) → baseIn given ≤ i → getD new i 0 ≡ getD old i 0
   made-kept fit low made i h = let one = made .one in made .above i (omega arith)
 
   -- A list was made.
@@ -98,34 +104,51 @@ module _ (given : Given) (line : List ℕ) where
           kept-ends = λ free j lt. omega (arith, made-kept fit low made (baseIn given + j * 2) (omega arith), h .kept-ends free j lt);
         }
 
-  count-kept : (w : List ℕ) (n i : ℕ) → baseIn given ≤ i → getD (set w 2043 n) i 0 ≡ getD w i 0
-  count-kept w n i h = getD-set-other w 2043 i n 0 (omega arith)
+    pub made-stands : Words given line old live top → {visits : ℕ} {l : List Note} {s : State} → Stands given line old live visits l s → Stands given line new live visits l s
+    made-stands words h = stands-same made-same (made-kept fit low made) words (made .below 2044 (omega arith) (omega arith)) h
 
-  -- The number of visits made was written.
-  module _ (w : List ℕ) (live top n : ℕ) (few : live * 3 ≤ 2042) where
-    pub count-same : Same given line w (set w 2043 n) live top
-    count-same = record {
-      uses = λ i h. getD-set-other w 2043 i n 0 (omega arith);
-      cells = λ i a b. getD-set-other w 2043 i n 0 (omega arith);
-      past = λ i h. getD-set-other w 2043 i n 0 (omega arith);
-    }
+  -- A number was written in word k: that of the visits made, or that of the furthest position.
+  module _ (k : ℕ) (from : 2043 ≤ k) (to : k ≤ 2044) (w : List ℕ) (n : ℕ) where
+    written-kept : (i : ℕ) → baseIn given ≤ i → getD (set w k n) i 0 ≡ getD w i 0
+    written-kept i h = getD-set-other w k i n 0 (omega arith)
 
-    module _ (words : Words given line w live top) where
-      pub count-words : Words given line (set w 2043 n) live top
-      count-words = record {
-        room = omega (arith, words .room, length-set w 2043 n);
-        arena = arena-same w (set w 2043 n) top (count-same .cells) (length-set w 2043 n) (words .arena);
-        held-lists = λ i lt. omega (arith, count-same .uses (i * 3 + 2) (omega arith), words .held-lists i lt);
-        held-ends = λ i lt. omega (arith, count-same .uses (i * 3 + 1) (omega arith), words .held-ends i lt);
-        kept-lists = λ free j lt. omega (arith, count-kept w n (baseIn given + j * 2 + 1) (omega arith), words .kept-lists free j lt);
-        kept-ends = λ free j lt. omega (arith, count-kept w n (baseIn given + j * 2) (omega arith), words .kept-ends free j lt);
+    pub written-top : topIn (set w k n) ≡ topIn w
+    written-top = getD-set-other w k 2042 n 0 (omega arith)
+
+    module _ {live top : ℕ} (few : live * 3 ≤ 2042) where
+      pub written-same : Same given line w (set w k n) live top
+      written-same = record {
+        uses = λ i h. getD-set-other w k i n 0 (omega arith);
+        cells = λ i a b. getD-set-other w k i n 0 (omega arith);
+        past = λ i h. getD-set-other w k i n 0 (omega arith);
       }
 
-      pub count-stands : {made : ℕ} {l : List Note} {s : State} → Stands given line w live made l s → Stands given line (set w 2043 n) live made l s
-      count-stands h = stands-same count-same (count-kept w n) words h
-
-  pub count-top : (w : List ℕ) (n : ℕ) → topIn (set w 2043 n) ≡ topIn w
-  count-top w n = getD-set-other w 2043 2042 n 0 (omega arith)
+      pub written-words : Words given line w live top → Words given line (set w k n) live top
+      written-words words = record {
+        room = omega (arith, words .room, length-set w k n);
+        arena = arena-same w (set w k n) top (written-same .cells) (length-set w k n) (words .arena);
+        held-lists = λ i lt. omega (arith, written-same .uses (i * 3 + 2) (omega arith), words .held-lists i lt);
+        held-ends = λ i lt. omega (arith, written-same .uses (i * 3 + 1) (omega arith), words .held-ends i lt);
+        kept-lists = λ free j lt. omega (arith, written-kept (baseIn given + j * 2 + 1) (omega arith), words .kept-lists free j lt);
+        kept-ends = λ free j lt. omega (arith, written-kept (baseIn given + j * 2) (omega arith), words .kept-ends free j lt);
+      }
 
   pub count-made : (w : List ℕ) (n : ℕ) → 2048 ≤ length w → madeIn (set w 2043 n) ≡ n
   count-made w n h = getD-set-same w 2043 n 0 (omega arith)
+
+  pub reach-made : (w : List ℕ) (x : ℕ) → madeIn (reachedIn w x) ≡ madeIn w
+  reach-made w x = getD-set-other w 2044 2043 (max (furthestIn w) x) 0 (omega arith)
+
+  module _ {w : List ℕ} {live top made : ℕ} {l : List Note} {s : State} (few : live * 3 ≤ 2042) (words : Words given line w live top) (h : Stands given line w live made l s) where
+    -- The number of visits made was written.
+    pub count-stands : (n : ℕ) → Stands given line (set w 2043 n) live made l s
+    count-stands n =
+        stands-same (written-same 2043 (omega arith) (omega arith) w n few) (written-kept 2043 (omega arith) (omega arith) w n) words (getD-set-other w 2043 2044 n 0 (omega arith)) h
+
+    -- A range was visited at x.
+    pub reach-stands : (x : ℕ) → Stands given line (reachedIn w x) live made l (asked x s)
+    reach-stands x =
+        let far : ℕ = max (furthestIn w) x in
+        let room = words .room in
+        stands-far (written-same 2044 (omega arith) (omega arith) w far few) (written-kept 2044 (omega arith) (omega arith) w far) words (max (s .furthest) x)
+        (ap (λ n. max n x) (h .furthest) ∙ sym (getD-set-same w 2044 far 0 (omega arith))) h

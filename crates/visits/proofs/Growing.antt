@@ -12,8 +12,8 @@ use Rattle.cells.specs.Cells.{treesAt}
 use Rattle.visits.specs.Given.{Given, allowanceIn, grammarIn, Fit}
 use Rattle.visits.specs.Words.{Added, keyOf, Stands, Words, Same}
 use Rattle.visits.specs.Says.{Visited, FAILED, STOPPED, Says, Came}
-use Rattle.visits.proofs.Frame.{same-none, same-then, same-trees, stands-same, made-same, made-kept, made-words}
-use Rattle.visits.proofs.Steps.{says-stop, then-match, unmatched, came-when}
+use Rattle.visits.proofs.Frame.{same-none, same-then, same-trees, made-same, made-words, made-stands}
+use Rattle.visits.proofs.Steps.{says-stop, came-after, then-match, unmatched, came-when}
 use Rattle.visits.proofs.Nodes.{result}
 use Rattle.visits.proofs.Living.{look-none, uses}
 
@@ -182,7 +182,7 @@ module _ (given : Given) (line : List ℕ) (fit : Fit given line) (v : List Note
           rest = λ l s st w′ r f. g .rest l s st w′ r
               (λ f₁ s₁ h le. grow-more w₂ live l next end (kids (treesAt w top)) w′ r lt short f₁ made s₁ le (h .left) (omega arith) (n .says l s₁ h)
               (λ f₂ s₂ h₂ le₂. back (treesAt w₂ (next .list)) (kids (treesAt w₃ (next .top + 1))) k l f₂ s₂ w′ r
-              (f f₂ s₂ (stands-same given line (made-same given line fit few low m) (made-kept given line fit low m) (n .words) h₂) le₂)));
+              (f f₂ s₂ (made-stands given line fit few low m (n .words) h₂) le₂)));
         }
       where
         back : (ts us : Trees) → us ≡ ts → (l : List Note) (f : ℕ) (s : State) (w′ : List ℕ) (r : Visited) → Says given line w′ live l r (grown given line v root a x l f (next .end) us s) → Says given line w′ live l r (grown given line v root a x l f (next .end) ts s)
@@ -209,18 +209,7 @@ module _ (given : Given) (line : List ℕ) (fit : Fit given line) (v : List Note
     unfolding firstAttempt
     first-grown h few low {w₂} {w′} {r} m c =
         let k : kids (treesAt w₂ (first .top + 1)) ≡ treesAt w₁ (first .list) = ap kids (m .is) in
-        let d = c .top-up in
         used
         (then-match given line (fit .short) (λ l. firstAttempt (attempt given line v root a x l) a x) A h
-        (record {
-          same = same-then given line (made-same given line fit few low m) (c .same) (omega arith) (omega arith);
-          words = c .words;
-          end-most = c .end-most;
-          end-in = c .end-in;
-          list-in = c .list-in;
-          top-up = omega arith;
-          made-up = c .made-up;
-          made-in = c .made-in;
-          says = λ l s st. subst (λ y. Says given line w′ live l r (grown given line v root a x l (s .left) (first .end) y s)) k
-              (c .says l s (stands-same given line (made-same given line fit few low m) (made-kept given line fit low m) (A .words) st));
-        }))
+        (came-after given line (fit .short) _ (made-same given line fit few low m) (omega arith) (omega arith) c
+        (λ l s st. subst (λ y. Says given line w′ live l r (grown given line v root a x l (s .left) (first .end) y s)) k (c .says l s (made-stands given line fit few low m (A .words) st)))))

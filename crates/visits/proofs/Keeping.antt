@@ -12,7 +12,7 @@ use lib.Seq.{sets, length-sets}
 use lib.Dec.{eqb}
 use borrow.Author.Tests.{eqb-true, eqb-false}
 use Rattle.meaning.specs.Grammar.{Answer, fail, ok, Note, noted, look, node}
-use Rattle.meaning.specs.Reading.{State, Run, after, Visit, apply, keep, useRule, recall, visited}
+use Rattle.meaning.specs.Reading.{State, keeping, Run, after, Visit, apply, keep, useRule, recall, visited}
 use Rattle.meaning.proofs.Notes.{look-same, look-other}
 use Rattle.meaning.proofs.Sets.{sets-apart, sets-at}
 use Rattle.cells.specs.Cells.{treesAt}
@@ -135,10 +135,11 @@ module _ (given : Given) (line : List ℕ) where
             rw (f, k) (look-same (s .kept) i x q ∙ sym here))
             (λ n. look-other (s .kept) i x q j y (differs j y n) ∙ h .kept free j y lj ly ∙ sym (there j y lj ly n))
 
-        pub keep-stands : Stands given line new live made l (record { left = s .left; kept = noted i x q (s .kept) })
+        pub keep-stands : Stands given line new live made l (keeping i x q s)
         keep-stands = record {
           lives = lives-same given line keep-same live l (omega arith) (words .held-lists) (h .lives);
           left = h .left;
+          furthest = h .furthest ∙ sym (put-other w place word list 2044 (omega arith) (omega arith));
           kept = λ f j y lj ly. kept-now j y lj ly;
         }
 

@@ -176,15 +176,15 @@ module _ (given : Given) (line : List ℕ) (fit : Fit given line) where
 
       pub live-stands : Stands given line entered (live + 1) made (noted a x q l) s
       live-stands =
-          let k = stands-same given line live-same live-kept words h in
-          record { lives = (live, refl, entry, fresh, k .lives); left = h .left; kept = k .kept }
+          let k = stands-same given line live-same live-kept words (use-other w (live * 3) (keyOf a x) end list 2044 (omega arith) (omega arith) (omega arith)) h in
+          record { lives = (live, refl, entry, fresh, k .lives); left = h .left; furthest = k .furthest; kept = k .kept }
 
   -- The use is no longer live.
   drop-stands : {w : List ℕ} {live made : ℕ} {n : Note} {l : List Note} {s : State} → Stands given line w (live + 1) made (n ∷ l) s → Stands given line w live made l s
   drop-stands {w} {live} {made} {n} {l} h =
       let e : live + 1 ≡ h .lives .0 + 1 = h .lives .1 in
       let f : h .lives .0 ≡ live = omega arith in
-      record { lives = subst (λ k. Lives w k l) f (h .lives .4); left = h .left; kept = h .kept }
+      record { lives = subst (λ k. Lives w k l) f (h .lives .4); left = h .left; furthest = h .furthest; kept = h .kept }
 
   drop-says : (w : List ℕ) (live : ℕ) (n : Note) (l : List Note) (r : Visited) (m : Run) → Says given line w (live + 1) (n ∷ l) r m → Says given line w live l r m
   drop-says w live n l r (effort p s) h = h

@@ -9,9 +9,9 @@ use Rattle.meaning.specs.Grammar.{Trees, Answer, fail, ok, Note}
 use Rattle.meaning.specs.Reading.{State, Run, effort, deep, done, after}
 use Rattle.cells.specs.Cells.{treesAt}
 use Rattle.visits.specs.Given.{Given, allowanceIn, Fit}
-use Rattle.visits.specs.Words.{Added, Stands, Words}
+use Rattle.visits.specs.Words.{Added, Stands, Words, Same}
 use Rattle.visits.specs.Says.{Visited, FAILED, STOPPED, Says, Came}
-use Rattle.visits.proofs.Frame.{same-none, same-then, stands-same, made-same, made-kept, made-words}
+use Rattle.visits.proofs.Frame.{same-none, same-then, made-same, made-words, made-stands}
 
 module _ (given : Given) (line : List ℕ) (short : length line ≤ 255) where
   module _ (w : List ℕ) (live : ℕ) (l : List Note) (a : Visited) (k : Answer → State → Run) where
@@ -57,26 +57,25 @@ module _ (given : Given) (line : List ℕ) (short : length line ≤ 255) where
     says-unfailed (done fail s) h e f = absurd (e (h .end))
     says-unfailed (done (ok y ts) s) h e f = rw (f y ts s) h
 
-  module _ {w₀ w₁ : List ℕ} {live made top : ℕ} {a : Visited} {m : List Note → State → Run} (k : List Note → Answer → State → Run) (c : Came given line w₀ w₁ live made top a m) where
-    follows : {w₂ : List ℕ} {r : Visited} (n : List Note → State → Run) → Came given line w₁ w₂ live (a .made) (a .top) r n
-        → ((l : List Note) (s : State) → Stands given line w₀ live made l s → Says given line w₂ live l r (after (m l s) (k l))) → Came given line w₀ w₂ live made top r (λ l s. after (m l s) (k l))
-    follows n d f =
-        let t = c .top-up in
-        let u = d .top-up in
-        let v = c .made-up in
-        let x = d .made-up in
-        record {
-          same = same-then given line (c .same) (d .same) (omega arith) t;
-          words = d .words;
-          end-most = d .end-most;
-          end-in = d .end-in;
-          list-in = d .list-in;
-          top-up = omega arith;
-          made-up = omega arith;
-          made-in = d .made-in;
-          says = f;
-        }
+  -- A step from the words w₁, to which those of w₀ were changed before it.
+  pub came-after : {w₀ w₁ w₂ : List ℕ} {live made top made₁ top₁ : ℕ} {r : Visited} {m : List Note → State → Run} (n : List Note → State → Run) → Same given line w₀ w₁ live top → made ≤ made₁ → top ≤ top₁
+      → Came given line w₁ w₂ live made₁ top₁ r m → ((l : List Note) (s : State) → Stands given line w₀ live made l s → Says given line w₂ live l r (n l s)) → Came given line w₀ w₂ live made top r n
+  came-after n same more higher d f =
+      let t = d .top-up in
+      let v = d .made-up in
+      record {
+        same = same-then given line same (d .same) (omega arith) higher;
+        words = d .words;
+        end-most = d .end-most;
+        end-in = d .end-in;
+        list-in = d .list-in;
+        top-up = omega arith;
+        made-up = omega arith;
+        made-in = d .made-in;
+        says = f;
+      }
 
+  module _ {w₀ w₁ : List ℕ} {live made top : ℕ} {a : Visited} {m : List Note → State → Run} (k : List Note → Answer → State → Run) (c : Came given line w₀ w₁ live made top a m) where
     alone : ((l : List Note) (s : State) → Stands given line w₀ live made l s → Says given line w₁ live l a (after (m l s) (k l))) → Came given line w₀ w₁ live made top a (λ l s. after (m l s) (k l))
     alone f = record {
       same = c .same;
@@ -92,11 +91,11 @@ module _ (given : Given) (line : List ℕ) (short : length line ≤ 255) where
 
     pub then-match : {w₂ : List ℕ} {r : Visited} → a .end < STOPPED → Came given line w₁ w₂ live (a .made) (a .top) r (λ l s. k l (ok (a .end) (treesAt w₁ (a .list))) s)
         → Came given line w₀ w₂ live made top r (λ l s. after (m l s) (k l))
-    then-match {w₂} {r} lt d = follows _ d (λ l s h. says-match w₁ live l a (k l) w₂ r (m l s) (c .says l s h) lt (λ t g. d .says l t g))
+    then-match {w₂} {r} lt d = came-after _ (c .same) (c .made-up) (c .top-up) d (λ l s h. says-match w₁ live l a (k l) w₂ r (m l s) (c .says l s h) lt (λ t g. d .says l t g))
 
     pub then-fail : {w₂ : List ℕ} {r : Visited} → a .end ≡ FAILED → Came given line w₁ w₂ live (a .made) (a .top) r (λ l s. k l fail s)
         → Came given line w₀ w₂ live made top r (λ l s. after (m l s) (k l))
-    then-fail {w₂} {r} e d = follows _ d (λ l s h. says-fail w₁ live l a (k l) w₂ r (m l s) (c .says l s h) e (λ t g. d .says l t g))
+    then-fail {w₂} {r} e d = came-after _ (c .same) (c .made-up) (c .top-up) d (λ l s h. says-fail w₁ live l a (k l) w₂ r (m l s) (c .says l s h) e (λ t g. d .says l t g))
 
     pub stopped : a .end ≡ STOPPED → Came given line w₀ w₁ live made top a (λ l s. after (m l s) (k l))
     stopped e = alone (λ l s h. says-stop w₁ live l a (k l) (m l s) (c .says l s h) e)
@@ -156,7 +155,7 @@ module _ (given : Given) (line : List ℕ) (short : length line ≤ 255) where
     top-up = d .rise;
     made-up = omega arith;
     made-in = le;
-    says = λ l s g. (d .is, record { end = refl; inside = inside; stands = stands-same given line (made-same given line fit few low d) (made-kept given line fit low d) h g });
+    says = λ l s g. (d .is, record { end = refl; inside = inside; stands = made-stands given line fit few low d h g });
   }
 
   -- The same result, by numbers that are equal to those it has.

@@ -10,7 +10,7 @@ use Rattle.meaning.specs.Reading.{State, Run, effort, deep, done, EFFORT, DEEP,
 use Rattle.cells.specs.Cells.{treesAt}
 use Rattle.visits.specs.Given.{Given, kindIn, aIn, bIn, nodesIn, keepsIn, allowanceIn, rootIn, grammarIn, Fit, leftIn, liveIn, posIn}
 pub use Rattle.visits.specs.Words.{FAILED, STOPPED}
-use Rattle.visits.specs.Words.{topIn, madeIn, placeIn, Stands, Words, Same}
+use Rattle.visits.specs.Words.{topIn, madeIn, furthestIn, placeIn, Stands, Words, Same}
 
 -- The reading that the functions follow: a visit with so many open visits left, a use of a rule, a use that becomes
 -- live, a node's application, and a visit that is counted and open.
@@ -92,12 +92,13 @@ pub record Ready (given : Given) (line w : List ℕ) (left live made top node po
   pub made-in : made ≤ allowanceIn given
   pub top-in : top ≤ made
 
--- A refusal with its code, at a position.
-pub record Refused (allowance : ℕ) (r : Visited) (code place : ℕ) (s : State) : Type 0 where
+-- A refusal with its code, at a position, over the words w.
+pub record Refused (allowance : ℕ) (w : List ℕ) (r : Visited) (code place : ℕ) (s : State) : Type 0 where
   pub end : r .end ≡ STOPPED
   pub list : r .list ≡ code * 4096 + place
   pub small : place < 4096
   pub left : s .left + r .made ≡ allowance
+  pub furthest : s .furthest ≡ furthestIn w
 
 pub record Failed (given : Given) (line w : List ℕ) (live : ℕ) (l : List Note) (r : Visited) (s : State) : Type 0 where
   pub end : r .end ≡ FAILED
@@ -110,8 +111,8 @@ pub record Matched (given : Given) (line w : List ℕ) (live : ℕ) (l : List No
 
 -- A result says how a run ends.
 abbrev pub Says : (given : Given) (line w : List ℕ) (live : ℕ) (l : List Note) (r : Visited) → Run → Type 0
-Says given line w live l r (effort p s) = Refused (allowanceIn given) r EFFORT p s
-Says given line w live l r (deep p s) = Refused (allowanceIn given) r DEEP p s
+Says given line w live l r (effort p s) = Refused (allowanceIn given) w r EFFORT p s
+Says given line w live l r (deep p s) = Refused (allowanceIn given) w r DEEP p s
 Says given line w live l r (done fail s) = Failed given line w live l r s
 Says given line w live l r (done (ok e ts) s) = (treesAt w (r .list) ≡ ts) × Matched given line w live l r e s
 

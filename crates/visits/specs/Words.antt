@@ -1,6 +1,6 @@
--- What the working numbers stand for: live uses from word 0 on, three words each; how many cells are in use and how many visits are made; cells
--- of trees; kept answers, two words a pair.
-use Prim.Native.Nat.{ℕ, zero, suc, _+_, _-_, _*_, _<_, _≤_}
+-- What the working numbers stand for: live uses from word 0 on, three words each; how many cells are in use, how many visits are made and the furthest
+-- position at which a range was visited; cells of trees; kept answers, two words a pair.
+use Prim.Native.Nat.{ℕ, zero, suc, _+_, _-_, _*_, _<_, _≤_, max}
 use mathlib.Core.Path.{_≡_}
 use mathlib.Core.Logic.{_≢_, _⊎_}
 use mathlib.Core.Bool.{true}
@@ -41,18 +41,28 @@ abbrev pub Lives : List ℕ → ℕ → List Note → Type 0
 Lives w live [] = live ≡ 0
 Lives w live (n ∷ l) = (k : ℕ) × (live ≡ k + 1) × Entry w k n × (look l (n .number) (n .position) ≡ none) × Lives w k l
 
--- The words that hold how many cells are in use, and how many visits are made.
+-- The words that hold how many cells are in use, how many visits are made, and the furthest position at which a range was visited.
 abbrev pub topWord : ℕ
 topWord = 2042
 
 abbrev pub madeWord : ℕ
 madeWord = 2043
 
+abbrev pub furthestWord : ℕ
+furthestWord = 2044
+
 abbrev pub topIn : List ℕ → ℕ
 topIn w = getD w topWord 0
 
 abbrev pub madeIn : List ℕ → ℕ
 madeIn w = getD w madeWord 0
+
+abbrev pub furthestIn : List ℕ → ℕ
+furthestIn w = getD w furthestWord 0
+
+-- The words after a range was visited at x.
+abbrev pub reachedIn : List ℕ → ℕ → List ℕ
+reachedIn w x = set w furthestWord (max (furthestIn w) x)
 
 -- Where the answer of a pair is kept.
 abbrev pub placeIn : Given → List ℕ → ℕ → ℕ → ℕ
@@ -71,6 +81,7 @@ keptAt w p = keptAs (getD w p 0) (treesAt w (getD w (p + 1) 0))
 pub record Stands (given : Given) (line w : List ℕ) (live made : ℕ) (l : List Note) (s : State) : Type 0 where
   pub lives : Lives w live l
   pub left : s .left + made ≡ allowanceIn given
+  pub furthest : s .furthest ≡ furthestIn w
   pub kept : keepsIn given ≡ true → (i x : ℕ) → i < nodesIn given → x ≤ length line → look (s .kept) i x ≡ keptAt w (placeIn given line i x)
 
 -- The words are in order: there is room, lists lie below top, ends lie inside the line.

@@ -4,7 +4,8 @@
 // (spot: the position, the live uses, the open visits left). What it answers is one number too: where it ends (or FAILED, or STOPPED by a
 // refusal) in the lower half, the list of its trees (or the refusal) in the upper.
 // specs/Words says what the working numbers stand for: the live uses (three words each from word 0 on), the number of cells in use and of visits
-// made (words 2042 and 2043), the cells of trees, and the kept answers (two words for each pair of a node and a position).
+// made and the furthest position at which a range was visited (words 2042 to 2044), the cells of trees, and the kept answers (two words for each
+// pair of a node and a position).
 // The promise of each function (specs/Says): from words that stand for live uses and a state, the answer and the words it leaves say how the
 // reading of crate meaning ends from there: the answer with its trees, the state handed on, or the refusal with its place.
 // The visit calls itself for children and roots; the open visits left is the number that falls. It passes references to the slices, not the
@@ -22,7 +23,7 @@ ghost use Rattle.layout.specs.Table.{nodesOf, rulesOf, rootOf, nodeAt, kindOf, 
 ghost use Rattle.layout.specs.Layout.{Laid};
 ghost use Rattle.cells.specs.Cells.{treesAt};
 ghost use Rattle.visits.specs.Given.{lent, longestLine, mostAllowance, allowanceIn, nodesIn, rulesIn, keepsIn, HasNode, HasRule, IsPair, IsOpen, beginning, leftIn, liveIn, posIn, Moved};
-ghost use Rattle.visits.specs.Words.{FAILED, keyOf, topWord, topIn, madeIn, placeIn, NotLive, HasList, HasLists, HasCell, Adds, Entered, HasPair, Roomy, Kept, Found};
+ghost use Rattle.visits.specs.Words.{FAILED, keyOf, topWord, topIn, madeIn, furthestIn, reachedIn, placeIn, NotLive, HasList, HasLists, HasCell, Adds, Entered, HasPair, Roomy, Kept, Found};
 ghost use Rattle.visits.specs.Says.{reading, uses, grows, applies, opens, here, sequencing, choosing, denying, repeating, rooting, endOf, endIn, listIn, Holds, Ranges, StartsHere, StartsUse, Unkept, Does, DoesVisit};
 
 // The ends that are no position.
@@ -45,10 +46,13 @@ const KEEPS: usize = 1;
 
 const FIRST_NODE: usize = 2;
 
-// The working numbers that hold how many cells are in use and how many visits are made, and the first of the cells.
+// The working numbers that hold how many cells are in use, how many visits are made and the furthest position at which a range was visited, and the
+// first of the cells.
 const TOP: usize = 2042;
 
 const MADE: usize = 2043;
+
+const FURTHEST: usize = 2044;
 
 const CELLS: usize = 2048;
 
@@ -162,28 +166,48 @@ fn range_end(line: &[u8], lowest: u32, highest: u32, pos: u32) -> u32
     FAILED
 }
 
-// A range: one byte, and no trees.
-fn visit_range(given: &[u32; 3], table: &[u8], line: &[u8], pos: u32, node: u32) -> u64
+// A range is visited at a position: the furthest one is written only where it rises.
+fn reach(work: &mut &mut [u32], pos: u32)
+    requires { ⌜ 2048 ≤ length (now (now work)) ⌝ }
+    ensures reached { λ _. ⌜ now (now (work .exit)) ≡ reachedIn (now (now (work .entry))) pos ⌝ }
+    ensures lent { λ _. ⌜ (now (work .exit)) .name ≡ (now (work .entry)) .name ⌝ }
+{
+    if work[FURTHEST] < pos {
+        work[FURTHEST] = pos;
+    }
+}
+
+// A range: one byte, and no trees. (Its fields are read before a word is written, so that the compiler need not find the node again.)
+fn visit_range(
+    given: &[u32; 3],
+    table: &[u8],
+    line: &[u8],
+    work: &mut &mut [u32],
+    pos: u32,
+    node: u32,
+) -> u64
     requires node { ⌜ HasNode (lent (now table) (now given)) node ⌝ }
     requires inside { ⌜ (pos ≤ length (now line)) × (length (now line) ≤ longestLine) ⌝ }
-    ensures { λ r. ⌜ Ranges (lent (now (table .entry)) (now (given .entry))) (now (line .entry)) node pos r ⌝ }
+    requires words { ⌜ 2048 ≤ length (now (now work)) ⌝ }
+    ensures range { λ r. ⌜ Ranges (lent (now (table .entry)) (now (given .entry))) (now (line .entry)) node pos r ⌝ }
+    ensures reached { λ _. ⌜ now (now (work .exit)) ≡ reachedIn (now (now (work .entry))) pos ⌝ }
+    ensures lent { λ _. ⌜ (now (work .exit)) .name ≡ (now (work .entry)) .name ⌝ }
 {
-    let end = range_end(
-        line,
-        a_of(given, table, node),
-        b_of(given, table, node),
-        pos,
-    );
+    let lowest = a_of(given, table, node);
+    let highest = b_of(given, table, node);
+    reach(work, pos);
+    let end = range_end(line, lowest, highest, pos);
     answer(end, 0)
 }
 
-// Makes ready for the first visit: no cell is in use, no visit is made.
+// Makes ready for the first visit: no cell is in use, no visit is made, no range was visited.
 pub fn no_visits(work: &mut [u32])
     requires { ⌜ 2048 ≤ length (now work) ⌝ }
-    ensures { λ _. ⌜ now (work .exit) ≡ sets (now (work .entry)) topWord (0 ∷ 0 ∷ []) ⌝ }
+    ensures { λ _. ⌜ now (work .exit) ≡ sets (now (work .entry)) topWord (0 ∷ 0 ∷ 0 ∷ []) ⌝ }
 {
     work[TOP] = 0;
     work[MADE] = 0;
+    work[FURTHEST] = 0;
 }
 
 pub fn visits_made(work: &[u32]) -> u32
@@ -191,6 +215,13 @@ pub fn visits_made(work: &[u32]) -> u32
     ensures { λ r. ⌜ r ≡ madeIn (now (work .entry)) ⌝ }
 {
     work[MADE]
+}
+
+pub fn furthest_visited(work: &[u32]) -> u32
+    requires { ⌜ 2048 ≤ length (now work) ⌝ }
+    ensures { λ r. ⌜ r ≡ furthestIn (now (work .entry)) ⌝ }
+{
+    work[FURTHEST]
 }
 
 // A live use is three words: its pair, and the end and the list of what it holds.
@@ -563,7 +594,7 @@ fn apply(
 {
     let done = match kind_of(given, *table, node) {
         0 => answer(pos_of(spot), 0),
-        1 => visit_range(given, *table, *line, pos_of(spot), node),
+        1 => visit_range(given, *table, *line, work, pos_of(spot), node),
         2 => use_free(given, table, line, work, spot, a_of(given, *table, node)),
         3 => visit_pair(given, table, line, work, spot, node),
         4 => visit_pair(given, table, line, work, spot, node),
@@ -609,7 +640,7 @@ fn visit_open(
     ensures lent { λ _. ⌜ (now (work .exit)) .name ≡ (now (work .entry)) .name ⌝ }
 {
     match kind_of(given, *table, node) {
-        1 => visit_range(given, *table, *line, pos_of(spot), node),
+        1 => visit_range(given, *table, *line, work, pos_of(spot), node),
         2 => use_rule(given, table, line, work, spot, a_of(given, *table, node)),
         3 => visit_pair(given, table, line, work, spot, node),
         4 => visit_pair(given, table, line, work, spot, node),

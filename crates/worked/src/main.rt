@@ -1,5 +1,6 @@
 // Runs every worked line and every limit, and prints one line of text for each case.
 mod build;
+mod furthest;
 mod limits;
 mod lines;
 mod loops;
@@ -13,6 +14,12 @@ fn main() {
     lines::unused_rules();
     lines::other_sheets();
     lines::doubling();
+    furthest::looking_ahead();
+    furthest::refused();
+    furthest::kept_answers();
+    furthest::attempts();
+    furthest::few_ranges();
+    furthest::too_deep();
     limits::line_length();
     limits::room();
     limits::working_numbers();

@@ -80,7 +80,8 @@ fn put_answer(page: &mut Page, used: usize, answer: Reading) -> usize {
     at = put_next(page, at, answer.place);
     at = put_next(page, at, answer.matched);
     at = put_next(page, at, answer.visits);
-    put_next(page, at, answer.records)
+    at = put_next(page, at, answer.records);
+    put_next(page, at, answer.furthest)
 }
 
 // ---- Text.

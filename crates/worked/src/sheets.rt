@@ -267,3 +267,89 @@ pub(crate) fn two_of_them(table: &mut Table) -> usize {
     rep(table, 2, 1);
     length
 }
+
+// S <- 'a' !('b' 'c')
+pub(crate) fn looking_ahead(table: &mut Table) -> usize {
+    let length = head(table, 6, 1);
+    root(table, 0, 5);
+    range(table, 0, 97, 97);
+    range(table, 1, 98, 98);
+    range(table, 2, 99, 99);
+    seq(table, 3, 1, 2);
+    not(table, 4, 3);
+    seq(table, 5, 0, 4);
+    length
+}
+
+// S <- R 'x' / 'b' / R; R <- 'a' 'b' 'c' / 'a'
+pub(crate) fn kept(table: &mut Table) -> usize {
+    let length = head(table, 11, 2);
+    root(table, 0, 5);
+    root(table, 1, 10);
+    rule(table, 0, 1);
+    range(table, 1, 120, 120);
+    seq(table, 2, 0, 1);
+    range(table, 3, 98, 98);
+    choice(table, 4, 3, 0);
+    choice(table, 5, 2, 4);
+    range(table, 6, 97, 97);
+    range(table, 7, 99, 99);
+    seq(table, 8, 3, 7);
+    seq(table, 9, 6, 8);
+    choice(table, 10, 9, 6);
+    length
+}
+
+// S <- S 'b' 'c' / 'a'
+pub(crate) fn growing(table: &mut Table) -> usize {
+    let length = head(table, 7, 1);
+    root(table, 0, 6);
+    rule(table, 0, 0);
+    range(table, 1, 98, 98);
+    range(table, 2, 99, 99);
+    seq(table, 3, 1, 2);
+    seq(table, 4, 0, 3);
+    range(table, 5, 97, 97);
+    choice(table, 6, 4, 5);
+    length
+}
+
+// S <- 'a'
+pub(crate) fn byte(table: &mut Table) -> usize {
+    let length = head(table, 1, 1);
+    root(table, 0, 0);
+    range(table, 0, 97, 97);
+    length
+}
+
+// S <- (empty)
+pub(crate) fn nothing(table: &mut Table) -> usize {
+    let length = head(table, 1, 1);
+    root(table, 0, 0);
+    empty(table, 0);
+    length
+}
+
+// S <- !(empty)
+pub(crate) fn never(table: &mut Table) -> usize {
+    let length = head(table, 2, 1);
+    root(table, 0, 1);
+    empty(table, 0);
+    not(table, 1, 0);
+    length
+}
+
+// S <- !('a'* 'b') 'a' S
+pub(crate) fn looking_on(table: &mut Table) -> usize {
+    let length = head(table, 8, 1);
+    root(table, 0, 7);
+    range(table, 0, 97, 97);
+    rep(table, 1, 0);
+    range(table, 2, 98, 98);
+    seq(table, 3, 1, 2);
+    not(table, 4, 3);
+    rule(table, 5, 0);
+    seq(table, 6, 0, 5);
+    seq(table, 7, 4, 6);
+    length
+}

@@ -58,7 +58,7 @@ fn right_recursion(maker: &mut Maker) {
 
 /// The reading itself, then the allowance just spent when the deep visit is
 /// refused (effort is named first) and one more.
-fn around_a_refusal(maker: &mut Maker, whole: bool, allowance: u64) {
+pub fn around_a_refusal(maker: &mut Maker, whole: bool, allowance: u64) {
     maker.read_with_enough(whole, allowance, 1_000);
     let trial = maker.trial(whole, allowance);
     if trial.code == independent::DEEP {

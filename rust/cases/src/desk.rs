@@ -3,8 +3,8 @@
 use crate::command::{decode, Command, Lending};
 
 /// A reading: table, line, allowance, working numbers, room, whole; gives
-/// code, place, matched, visits, records.
-pub type Read = fn(&[u8], &[u8], u64, &mut [u32], &mut [u8], bool) -> [u64; 5];
+/// code, place, matched, visits, records, furthest.
+pub type Read = fn(&[u8], &[u8], u64, &mut [u32], &mut [u8], bool) -> [u64; 6];
 
 /// The functions under comparison.
 #[derive(Clone, Copy)]

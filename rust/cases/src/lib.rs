@@ -9,6 +9,7 @@ mod damage;
 mod deep;
 mod desk;
 mod formed;
+mod furthest;
 mod maker;
 mod nothing;
 pub mod program;
@@ -21,7 +22,7 @@ mod worked;
 
 pub use command::{decode, Command, Lending};
 pub use desk::{run, Desk, Read, Readers};
-pub use maker::{Cases, Tables, Tally};
+pub use maker::{Cases, Furthest, Tables, Tally};
 pub use random::Random;
 pub use textbook::dear_sums;
 pub use worked::text as worked_text;
@@ -42,6 +43,7 @@ pub fn make(seed: u64) -> Cases {
     records::add(&mut maker);
     deep::add(&mut maker);
     nothing::add(&mut maker);
+    furthest::add(&mut maker);
     formed::add(&mut maker);
     // Random sheets fill what is left.
     soup::add(&mut maker, COMMANDS);
@@ -67,7 +69,13 @@ mod tests {
             add(&mut maker);
             maker.finish().tally.codes[independent::LOOP as usize]
         };
-        for add in [textbook::add, records::add, deep::add, formed::add] {
+        for add in [
+            textbook::add,
+            records::add,
+            deep::add,
+            furthest::add,
+            formed::add,
+        ] {
             assert_eq!(loops(add), 0);
         }
         assert!(loops(nothing::add) > 300);

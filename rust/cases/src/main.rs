@@ -3,7 +3,7 @@
 
 use std::process::ExitCode;
 
-use cases::{make, Tally, SEED};
+use cases::{make, Furthest, Tally, SEED};
 
 /// Fewer than this of any code are too few to compare by.
 const LEAST_OF_A_CODE: u64 = 50;
@@ -11,6 +11,8 @@ const LEAST_COMMANDS: u64 = 20_000;
 /// Of tables free though a rule is left-recursive, and not free though rule 0 is
 /// not; of those refused for a repetition of nothing, and those close to it.
 const LEAST_TABLES: u64 = 200;
+/// Of each sort of readings by how far ranges were asked.
+const LEAST_READINGS: u64 = 100;
 
 fn main() -> ExitCode {
     let arguments: Vec<String> = std::env::args().skip(1).collect();
@@ -56,7 +58,23 @@ fn print_counts(tally: &Tally) {
     eprintln!("tables free though they have one {}", tables.unreached);
     eprintln!("tables whose rule 0 reaches one {}", tables.reached);
     eprintln!("tables whose rule 0 is one {}", tables.itself);
+    for (sort, count) in sorts_of_readings(&tally.furthest) {
+        eprintln!("readings with furthest {sort} {count}");
+    }
     eprintln!("commands {}", tally.commands);
+}
+
+fn sorts_of_readings(furthest: &Furthest) -> [(&'static str, u64); 8] {
+    [
+        ("above matched", furthest.above_matched),
+        ("at matched", furthest.at_matched),
+        ("below matched", furthest.below_matched),
+        ("0, READ", furthest.read_at_0),
+        ("above 0, FAIL", furthest.fail_above_0),
+        ("above 0, EFFORT", furthest.effort_above_0),
+        ("above 0, DEEP", furthest.deep_above_0),
+        ("at the line's end", furthest.at_end),
+    ]
 }
 
 fn enough(tally: &Tally) -> bool {
@@ -67,7 +85,9 @@ fn enough(tally: &Tally) -> bool {
         tables.repeating_nothing,
         tables.close_to_it,
     ];
+    let readings = sorts_of_readings(&tally.furthest);
     tally.commands >= LEAST_COMMANDS
         && tally.codes.iter().all(|&count| count >= LEAST_OF_A_CODE)
         && sorts.iter().all(|&count| count >= LEAST_TABLES)
+        && readings.iter().all(|&(_, count)| count >= LEAST_READINGS)
 }

@@ -1,6 +1,9 @@
 //! Making commands one by one, with their answers and a tally.
 
+use std::cmp::Ordering;
 use std::collections::HashSet;
+
+use independent::{DEEP, EFFORT, FAIL, LOOP, READ, REST};
 
 use crate::command::{Command, Lending};
 use crate::desk::{print, Desk, Readers};
@@ -31,6 +34,54 @@ pub struct Tally {
     pub well_formed: [u64; 2],
     /// Tables that were reported on or read by, each counted once.
     pub tables: Tables,
+    /// Readings by how far ranges were asked.
+    pub furthest: Furthest,
+}
+
+/// How many readings there are of each sort.
+#[derive(Clone, Default)]
+pub struct Furthest {
+    /// READ or REST: a range was visited beyond the match.
+    pub above_matched: u64,
+    /// READ or REST: the furthest one just where the match ends.
+    pub at_matched: u64,
+    /// READ or REST: the furthest one before that.
+    pub below_matched: u64,
+    /// READ, and none was visited behind 0.
+    pub read_at_0: u64,
+    /// FAIL, and one was visited behind 0.
+    pub fail_above_0: u64,
+    /// EFFORT, and the same.
+    pub effort_above_0: u64,
+    /// DEEP, and the same.
+    pub deep_above_0: u64,
+    /// The line has bytes, and one was visited at its end.
+    pub at_end: u64,
+}
+
+impl Furthest {
+    fn count(&mut self, numbers: &[u64], line_length: usize) {
+        let (code, matched, furthest) = (numbers[0], numbers[2], numbers[5]);
+        let above_0 = u64::from(furthest > 0);
+        match code {
+            READ | REST => *self.beside(matched, furthest) += 1,
+            FAIL => self.fail_above_0 += above_0,
+            EFFORT => self.effort_above_0 += above_0,
+            DEEP => self.deep_above_0 += above_0,
+            _ => {}
+        }
+        self.read_at_0 += u64::from(code == READ && furthest == 0);
+        self.at_end += u64::from(furthest > 0 && furthest == line_length as u64);
+    }
+
+    /// The count of the readings that match so far and ask so far.
+    fn beside(&mut self, matched: u64, furthest: u64) -> &mut u64 {
+        match furthest.cmp(&matched) {
+            Ordering::Greater => &mut self.above_matched,
+            Ordering::Equal => &mut self.at_matched,
+            Ordering::Less => &mut self.below_matched,
+        }
+    }
 }
 
 /// How many tables there are of each sort. All are accepted but those refused
@@ -55,8 +106,8 @@ impl Tables {
     fn count(&mut self, table: &[u8]) {
         let report = independent::report(table);
         match report.code {
-            independent::LOOP => self.repeating_nothing += 1,
-            independent::READ => {
+            LOOP => self.repeating_nothing += 1,
+            READ => {
                 *self.of(report) += 1;
                 self.close_to_it += u64::from(is_close_to_repeating_nothing(table));
             }
@@ -103,7 +154,7 @@ impl Trial {
         let mut room = vec![0; FULL_ROOM];
         let answer = independent::read(table, line, allowance, &mut work, &mut room, whole);
         let stored = match answer.code {
-            independent::READ => 5 + 5 * answer.records as usize,
+            READ => 5 + 5 * answer.records as usize,
             _ => 0,
         };
         room.truncate(stored);
@@ -169,6 +220,9 @@ impl Maker {
         match command {
             Command::WellFormed { .. } => tally.well_formed[first] += 1,
             _ => tally.codes[first] += 1,
+        }
+        if let Command::Read(_) = command {
+            tally.furthest.count(&numbers, self.desk.line().len());
         }
         if let Command::Report | Command::Read(_) = command {
             self.count_table();
@@ -256,7 +310,7 @@ impl Maker {
         let trial = self.trial(whole, allowance);
         let visits = trial.visits.max(1);
         let ample = match trial.code {
-            independent::READ => trial.stored.len() as u64 + self.random.below(30),
+            READ => trial.stored.len() as u64 + self.random.below(30),
             _ => self.random.below(60),
         };
         let slack = self.random.below((allowance - visits).min(30) + 1);
@@ -271,7 +325,7 @@ impl Maker {
             self.read(whole, visits, 0, ample);
             self.read_with_enough(whole, 1, ample);
         }
-        if trial.code == independent::READ {
+        if trial.code == READ {
             let stored = trial.stored.len() as u64;
             self.read_with_enough(whole, visits, stored);
             self.read_with_enough(whole, visits, stored - 1);

@@ -18,17 +18,20 @@ pub struct Answer {
     pub matched: u64,
     pub visits: u64,
     pub records: u64,
+    /// The largest position at which a range was visited, 0 if none was.
+    pub furthest: u64,
 }
 
 impl Answer {
     /// In the order of the rules.
-    pub fn numbers(self) -> [u64; 5] {
+    pub fn numbers(self) -> [u64; 6] {
         [
             self.code,
             self.place,
             self.matched,
             self.visits,
             self.records,
+            self.furthest,
         ]
     }
 }
@@ -114,8 +117,7 @@ pub fn read(
 
     let mut reading = Reading::new(&table, line, allowance);
     let outcome = reading.use_rule(0, 0);
-    let visits = reading.visits;
-    conclude(outcome, visits, line.len(), room, whole)
+    conclude(outcome, &reading, room, whole)
 }
 
 /// How live uses are looked for while a line is read, to its end or until it
@@ -135,14 +137,14 @@ fn refused(code: u64, place: u64) -> Answer {
         matched: 0,
         visits: 0,
         records: 0,
+        furthest: 0,
     }
 }
 
 /// From the use of rule 0 at position 0 to what comes back.
 fn conclude(
     outcome: Result<Outcome, Refusal>,
-    visits: u64,
-    line_length: usize,
+    reading: &Reading,
     room: &mut [u8],
     whole: bool,
 ) -> Answer {
@@ -150,8 +152,9 @@ fn conclude(
         code,
         place,
         matched,
-        visits,
+        visits: reading.visits,
         records,
+        furthest: reading.furthest as u64,
     };
     let (end, trees) = match outcome {
         Err(stop) => return answer(stop.code, stop.place, 0, 0),
@@ -159,7 +162,7 @@ fn conclude(
         Ok(Outcome::Match { end, trees }) => (end, trees),
     };
     let matched = end as u64;
-    if whole && end < line_length {
+    if whole && end < reading.line.len() {
         return answer(REST, matched, matched, 0);
     }
     // A successful rule use is one tree, so a listed answer has one element.
@@ -184,6 +187,8 @@ struct Reading<'a> {
     visits: u64,
     /// Visits open.
     open: u64,
+    /// The largest position at which a range was visited, 0 if none was yet.
+    furthest: usize,
     /// Free grammars: the answer of each finished pair (node, position).
     kept: HashMap<(usize, usize), Outcome>,
     /// All others: what is held for each live pair (rule, position), and how
@@ -202,6 +207,7 @@ impl<'a> Reading<'a> {
             free: is_free(table),
             visits: 0,
             open: 0,
+            furthest: 0,
             kept: HashMap::new(),
             held: HashMap::new(),
             searches: Searches::default(),
@@ -244,7 +250,10 @@ impl<'a> Reading<'a> {
         }
     }
 
-    fn range(&self, lowest: u16, highest: u16, position: usize) -> Outcome {
+    /// A match, a failure and the line's end count alike for the furthest. A kept
+    /// answer does not come here, and its position has been counted.
+    fn range(&mut self, lowest: u16, highest: u16, position: usize) -> Outcome {
+        self.furthest = self.furthest.max(position);
         match self.line.get(position) {
             Some(&byte) if lowest <= u16::from(byte) && u16::from(byte) <= highest => {
                 Outcome::Match {

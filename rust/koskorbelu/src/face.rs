@@ -49,7 +49,7 @@ pub fn report(table: &[u8]) -> [u64; 7] {
     answer
 }
 
-/// Code, place, matched, visits, records of a prefix or whole-line reading.
+/// Code, place, matched, visits, records, furthest of a prefix or whole-line reading.
 pub fn read(
     table: &[u8],
     line: &[u8],
@@ -57,8 +57,8 @@ pub fn read(
     work: &mut [u32],
     room: &mut [u8],
     whole: bool,
-) -> [u64; 5] {
-    let mut answer = [0; 5];
+) -> [u64; 6] {
+    let mut answer = [0; 6];
     let function = if whole {
         c::kos_read_whole
     } else {

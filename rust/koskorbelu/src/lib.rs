@@ -4,8 +4,9 @@
 //! of its rules are left-recursive and whether it is free of those that rule 0
 //! can reach, `read_prefix` and `read_whole` read a line by it, and with `_with`
 //! they take the caller's buffers. They ask nothing of their arguments: each
-//! call ends with one of the named [`Code`]s. Nothing here is `unsafe` to use,
-//! and nothing panics on a damaged table or line.
+//! call ends with one of the named [`Code`]s, and [`Answer::marked`] shows where
+//! a line went wrong. Nothing here is `unsafe` to use, and nothing panics on a
+//! damaged table or line.
 //!
 //! What is proved is proved of the C functions. This crate only lends them
 //! their buffers and unpacks their answers.
@@ -33,10 +34,11 @@
 //! ];
 //! let line = b"1,5";
 //!
-//! let Answer::Read { matched, visits, reading } = read_whole(&sheet_b, line, 2_500) else {
+//! let answer = read_whole(&sheet_b, line, 2_500);
+//! let Answer::Read { matched, visits, furthest, reading } = answer else {
 //!     panic!("sheet B reads it");
 //! };
-//! assert_eq!((matched, visits), (3, 8));
+//! assert_eq!((matched, visits, furthest), (3, 8, 2));
 //!
 //! let spans: Vec<_> = reading.records().map(|r| (r.rule, r.start, r.end)).collect();
 //! assert_eq!(spans, [(1, 0, 1), (1, 2, 3), (0, 0, 3)]);
@@ -48,6 +50,8 @@
 //! let refused = read_whole(&sheet_b, b"1.5", 2_500);
 //! assert_eq!(refused.code(), Code::Rest);
 //! assert_eq!(refused.to_string(), "REST 1 7");
+//! assert_eq!(refused.furthest(), 1);
+//! assert_eq!(refused.marked(b"1.5").to_string(), "1.5\n ^");
 //! ```
 
 #![deny(unsafe_code)]
@@ -57,12 +61,14 @@ mod code;
 #[cfg(feature = "proved")]
 #[allow(unsafe_code)]
 pub mod face;
+mod marked;
 #[cfg(feature = "proved")]
 mod proved;
 mod reading;
 
 pub use answer::{Answer, Refusal, Report};
 pub use code::Code;
+pub use marked::Marked;
 #[cfg(feature = "proved")]
 pub use proved::{check, read_prefix, read_prefix_with, read_whole, read_whole_with, report};
 pub use reading::{stored_length, Reading, Record, Tree};

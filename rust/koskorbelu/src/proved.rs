@@ -102,14 +102,16 @@ fn accepted(code: u64, place: u64) -> Result<(), Refusal> {
 
 /// Unpacks the numbers of a reading; `front` gives that much of the room.
 fn answer<Bytes: AsRef<[u8]>>(
-    [code, place, matched, visits, records]: [u64; 5],
+    [code, place, matched, visits, records, furthest]: [u64; 6],
     front: impl FnOnce(usize) -> Bytes,
 ) -> Answer<Bytes> {
     let (matched, records) = (matched as usize, records as usize);
+    let furthest = furthest as usize;
     match named(code) {
         Code::Read => Answer::Read {
             matched,
             visits,
+            furthest,
             reading: Reading::new(front(stored_length(records))),
         },
         code => Answer::Refused {
@@ -118,6 +120,7 @@ fn answer<Bytes: AsRef<[u8]>>(
             matched,
             visits,
             records,
+            furthest,
         },
     }
 }

@@ -97,8 +97,8 @@ mod proved {
         }
     }
 
-    /// The five numbers, and what is then in the working numbers and the room.
-    type Left = ([u64; 5], Vec<u32>, Vec<u8>);
+    /// The six numbers, and what is then in the working numbers and the room.
+    type Left = ([u64; 6], Vec<u32>, Vec<u8>);
 
     fn read(function: Read, table: &[u8], line: &[u8], lending: &Lending) -> Left {
         let (mut work, mut room) = (lending.work(), lending.room());
@@ -158,10 +158,11 @@ mod proved {
         ] {
             let (table, line) = (sheet.bytes(), line.as_bytes());
             let (mut work, mut room) = (vec![7; 16_384], vec![7; 5_005]);
-            let [code, place, matched, visits, records] =
+            let [code, place, matched, visits, records, furthest] =
                 face::read(&table, line, 2_500, &mut work, &mut room, true);
             let answer = koskorbelu::read_whole(&table, line, 2_500);
             assert_eq!((answer.code().number(), answer.visits()), (code, visits));
+            assert_eq!(answer.furthest() as u64, furthest);
             match answer {
                 Answer::Read {
                     matched: end,
@@ -182,6 +183,60 @@ mod proved {
         }
     }
 
+    /// The line with its marks, as a person is shown it.
+    #[test]
+    fn marks_under_a_line() {
+        for (sheet, line, answer, below) in [
+            (sheet_a(), "7+2", "READ 3 22 4", "   ^"),
+            (sheet_a(), "7+2+", "REST 3 24", "   |^"),
+            (sheet_a(), "7+2*9", "REST 3 22", "   ^"),
+            (sheet_a(), "", "FAIL 0 5", "^"),
+            (sheet_b(), "1.5", "REST 1 7", " ^"),
+            (sheet_b(), ",5", "FAIL 0 5", "^"),
+            (sheet_b(), "1,5 kW", "REST 3 8", "  ^|"),
+            (sheet_b(), "1,\u{B2}", "REST 1 9", " |^"),
+        ] {
+            let table = sheet.bytes();
+            let given = koskorbelu::read_whole(&table, line.as_bytes(), 2_500);
+            assert_eq!(given.to_string(), answer, "{line}");
+            let rows = given.marked(line.as_bytes()).to_string();
+            assert_eq!(rows, format!("{line}\n{below}"));
+        }
+        let table = sheet_b().bytes();
+        let rows = |line: &[u8]| {
+            let answer = koskorbelu::read_whole(&table, line, 2_500);
+            answer.marked(line).to_string()
+        };
+        assert_eq!(rows(b"1,5\r"), "1,5\u{240D}\n  ^|");
+        assert_eq!(rows(b"\xFF"), "\u{FFFD}\n^");
+        // Turned away.
+        assert_eq!(rows(&[b'1'; 256]), "1".repeat(256));
+    }
+
+    /// What was reached before a visit is refused; prefix readings mark no rest.
+    #[test]
+    fn marks_of_a_reading_that_is_refused() {
+        let table = sheet_a().bytes();
+        for (allowance, answer, below) in [
+            (10, "EFFORT 1 10", "^"),
+            (11, "EFFORT 2 11", " ^"),
+            (18, "EFFORT 3 18", "  ^"),
+            (21, "EFFORT 0 21", "   ^"),
+            (22, "READ 3 22 4", "   ^"),
+        ] {
+            let given = koskorbelu::read_prefix(&table, b"7+2", allowance);
+            assert_eq!(given.to_string(), answer);
+            let rows = given.marked(b"7+2").to_string();
+            assert_eq!(rows, format!("7+2\n{below}"));
+        }
+        let prefix = koskorbelu::read_prefix(&table, b"7+", 2_500);
+        assert_eq!(prefix.marked(b"7+").to_string(), "7+\n  ^");
+        let (mut work, mut room) = (vec![0; 3_000], vec![0; 24]);
+        let short = koskorbelu::read_whole_with(&table, b"7+2", 22, &mut work, &mut room);
+        assert_eq!(short.to_string(), "ROOM 3 22");
+        assert_eq!(short.marked(b"7+2").to_string(), "7+2\n   ^");
+    }
+
     /// The records of a tree as they are stored.
     fn again(tree: &Tree) -> Vec<u8> {
         let mut bytes: Vec<u8> = tree.children.iter().flat_map(again).collect();
@@ -198,9 +253,9 @@ mod proved {
         let table = sheet_b().bytes();
         for whole in [false, true] {
             let numbers = face::read(&[], &[], 0, &mut [], &mut [], whole);
-            assert_eq!(numbers, [1, 0, 0, 0, 0]);
+            assert_eq!(numbers, [1, 0, 0, 0, 0, 0]);
             let numbers = face::read(&table, &[], 1, &mut [], &mut [], whole);
-            assert_eq!(numbers, [10, 0, 0, 0, 0]);
+            assert_eq!(numbers, [10, 0, 0, 0, 0, 0]);
         }
     }
 
@@ -269,6 +324,7 @@ mod proved {
             let answer = koskorbelu::read_prefix_with(&table, line, 0, &mut work, &mut room);
             assert_eq!(answer.to_string(), "LOOP 8 0");
             assert!(!answer.code().line_was_read());
+            assert_eq!(answer.furthest(), 0);
             assert_eq!((work, room), ([7; 100], [7; 10]));
         }
     }

@@ -45,7 +45,7 @@ fn answers() {
         "LOWEST",
         "FREE",
     ];
-    let read = ["MATCHED", "VISITS", "RECORDS"];
+    let read = ["MATCHED", "VISITS", "RECORDS", "FURTHEST"];
     for (rest, count) in [(&report[..], "REPORT"), (&read[..], "READ"), (&[], "CHECK")] {
         for (at, name) in check.iter().chain(rest).enumerate() {
             assert_eq!(
@@ -75,7 +75,7 @@ fn limits() {
         assert_eq!(header.get(name), Some(&number), "{name}");
     }
     // Nothing in the header is left untested but the stack, which c/stack.c measures.
-    let tested = Code::ALL.len() + 2 + 5 + 3 + 3 + 7;
+    let tested = Code::ALL.len() + 2 + 5 + 4 + 3 + 7;
     assert_eq!(header.len(), tested + 1, "{header:?}");
 }
 

@@ -12,17 +12,19 @@ pub struct Answer {
     pub matched: u64,
     pub visits: u64,
     pub records: u64,
+    pub furthest: u64,
 }
 
 impl Answer {
     /// In the order of the rules.
-    pub fn numbers(self) -> [u64; 5] {
+    pub fn numbers(self) -> [u64; 6] {
         [
             self.code,
             self.place,
             self.matched,
             self.visits,
             self.records,
+            self.furthest,
         ]
     }
 }
@@ -135,6 +137,7 @@ pub fn read(
         cells: cells.as_chunks_mut().0,
         made: 0,
         kept: kept.as_chunks_mut().0,
+        furthest: 0,
         refusal: (0, 0),
     };
     let outcome = if masks(&opened).free {
@@ -156,6 +159,7 @@ fn refused(code: u64, place: u64) -> Answer {
         matched: 0,
         visits: 0,
         records: 0,
+        furthest: 0,
     }
 }
 
@@ -174,18 +178,22 @@ struct Reading<'a> {
     /// no more than the allowance.
     made: usize,
     kept: &'a mut [Kept],
+    /// The largest position at which a range was visited.
+    furthest: u32,
     /// Code and place of the refused visit, after `STOP`.
     refusal: (u64, u64),
 }
 
 impl Reading<'_> {
     fn conclude(&mut self, outcome: Outcome, visits: u64, room: &mut [u8], whole: bool) -> Answer {
+        let furthest = self.furthest.into();
         let answer = |code, place, matched, records| Answer {
             code,
             place,
             matched,
             visits,
             records,
+            furthest,
         };
         if outcome.end == STOPPED {
             return answer(self.refusal.0, self.refusal.1, 0, 0);
@@ -246,12 +254,7 @@ impl Reading<'_> {
         let node = Node(self.nodes[number as usize]);
         match node.kind() {
             EMPTY => nothing(position),
-            RANGE => match self.line.get(position as usize) {
-                Some(&byte) if node.a() <= byte.into() && u32::from(byte) <= node.b() => {
-                    nothing(position + 1)
-                }
-                _ => FAILURE,
-            },
+            RANGE => self.range(node, position),
             RULE if FREE => self.use_kept(node.a(), position, open),
             RULE => self.use_held(node.a(), position, open),
             SEQUENCE => {
@@ -286,6 +289,17 @@ impl Reading<'_> {
                 let after = self.visit::<FREE>(number, before.end, open);
                 self.joined(before, after)
             }
+        }
+    }
+
+    #[inline(always)]
+    fn range(&mut self, node: Node, position: u32) -> Outcome {
+        self.furthest = self.furthest.max(position);
+        match self.line.get(position as usize) {
+            Some(&byte) if node.a() <= byte.into() && u32::from(byte) <= node.b() => {
+                nothing(position + 1)
+            }
+            _ => FAILURE,
         }
     }
 

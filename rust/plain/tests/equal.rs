@@ -61,7 +61,7 @@ fn large_allowances() {
 }
 
 /// An answer with what is left in the working numbers and the room.
-type Left = ([u64; 5], Vec<u32>, Vec<u8>);
+type Left = ([u64; 6], Vec<u32>, Vec<u8>);
 
 fn answer(readers: Readers, table: &[u8], line: &[u8], allowance: u64, whole: bool) -> Left {
     let mut work = vec![7; 4_100_000];

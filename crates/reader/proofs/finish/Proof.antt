@@ -14,35 +14,43 @@ visits-made-requires c κs = search needs
 cast-made : tie.Need-cast-made
 cast-made c = search needs
 
+furthest-visited-requires : tie.Need-furthest-visited-requires
+furthest-visited-requires c κs = search needs
+
+cast-furthest : tie.Need-cast-furthest
+cast-furthest c = search needs
+
 end-of-requires : tie.Need-end-of-requires
 end-of-requires c κs = search needs
 
 list-of-requires : tie.Need-list-of-requires
 list-of-requires c κs = search needs
 
-cast-t15 : tie.Need-cast-t15
-cast-t15 c = search needs
-
 cast-t16 : tie.Need-cast-t16
 cast-t16 c = search needs
 
+cast-t17 : tie.Need-cast-t17
+cast-t17 c = search needs
+
 returns : tie.Need-returns
 returns c =
-    let at-start = c .before .before .before .before .before .before .before in
-    let at-visits-made = c .before .before .before .visits-made in
+    let at-start = c .before .before .before .before .before .before .before .before in
+    let at-visits-made = c .before .before .before .before .visits-made in
+    let at-furthest = c .before .before .before .furthest-visited in
     let at-end-of = c .before .before .end-of in
     let at-list-of = c .before .list-of in
     let at-if1 = c .if1 in
-    by-refusal _ _ _ _ _ (at-start .pre .1) _ _ _ (at-end-of .ensures) (at-list-of .ensures) (at-visits-made .ensures) (at-if1 .taken)
+    by-refusal _ _ _ _ _ (at-start .pre .1) _ _ _ _ (at-end-of .ensures) (at-list-of .ensures) (at-visits-made .ensures) (at-furthest .ensures) (at-if1 .taken)
 
 returns-2 : tie.Need-returns-2
 returns-2 c =
-    let at-start = c .before .before .before .before .before .before .before .before in
-    let at-visits-made = c .before .before .before .before .visits-made in
+    let at-start = c .before .before .before .before .before .before .before .before .before in
+    let at-visits-made = c .before .before .before .before .before .visits-made in
+    let at-furthest = c .before .before .before .before .furthest-visited in
     let at-end-of = c .before .before .before .end-of in
     let at-list-of = c .before .before .list-of in
     let at-if2 = c .if2 in
-    by-failure _ _ _ _ _ (at-start .pre .1) _ _ _ (at-end-of .ensures) (at-list-of .ensures) (at-visits-made .ensures) (at-if2 .taken)
+    by-failure _ _ _ _ _ (at-start .pre .1) _ _ _ _ (at-end-of .ensures) (at-list-of .ensures) (at-visits-made .ensures) (at-furthest .ensures) (at-if2 .taken)
 
 cast-end : tie.Need-cast-end
 cast-end c = search needs
@@ -52,21 +60,22 @@ unread-requires c κs = search needs
 
 returns-3 : tie.Need-returns-3
 returns-3 c =
-    let at-start = c .before .before .before .before .before .before .before .before .before .before in
-    let at-visits-made = c .before .before .before .before .before .before .visits-made in
+    let at-start = c .before .before .before .before .before .before .before .before .before .before .before in
+    let at-visits-made = c .before .before .before .before .before .before .before .visits-made in
+    let at-furthest = c .before .before .before .before .before .before .furthest-visited in
     let at-end-of = c .before .before .before .before .before .end-of in
     let at-list-of = c .before .before .before .before .list-of in
     let at-if1 = c .before .before .before .if1 in
     let at-if2 = c .before .before .if2 in
     let at-unread = c .before .unread in
     let at-if3 = c .if3 in
-    by-match _ _ _ _ _ (at-start .pre .1) _ _ _ (at-end-of .ensures) (at-list-of .ensures) (at-visits-made .ensures)
+    by-match _ _ _ _ _ (at-start .pre .1) _ _ _ _ (at-end-of .ensures) (at-list-of .ensures) (at-visits-made .ensures) (at-furthest .ensures)
     (matched (at-start .pre .0) _ (at-end-of .ensures) (at-if1 .left) (at-if2 .left)) _ _
-    (λ work. as-rest _ _ _ _ _ work _ (sym (at-unread .ensures) ∙ at-if3 .taken))
+    (λ work. as-rest _ _ _ _ _ _ work _ (sym (at-unread .ensures) ∙ at-if3 .taken))
 
 records-of-requires : tie.Need-records-of-requires
 records-of-requires c κs =
-    let at-start = c .before .before .before .before .before .before .before .before .before .before in
+    let at-start = c .before .before .before .before .before .before .before .before .before .before .before in
     let at-end-of = c .before .before .before .before .before .end-of in
     let at-list-of = c .before .before .before .before .list-of in
     let at-if1 = c .before .before .before .if1 in
@@ -75,8 +84,9 @@ records-of-requires c κs =
 
 returns-4 : tie.Need-returns-4
 returns-4 c =
-    let at-start = c .before .before .before .before .before .before .before .before .before .before .before .before in
-    let at-visits-made = c .before .before .before .before .before .before .before .before .visits-made in
+    let at-start = c .before .before .before .before .before .before .before .before .before .before .before .before .before in
+    let at-visits-made = c .before .before .before .before .before .before .before .before .before .visits-made in
+    let at-furthest = c .before .before .before .before .before .before .before .before .furthest-visited in
     let at-end-of = c .before .before .before .before .before .before .before .end-of in
     let at-list-of = c .before .before .before .before .before .before .list-of in
     let at-if1 = c .before .before .before .before .before .if1 in
@@ -85,9 +95,9 @@ returns-4 c =
     let at-if3 = c .before .before .if3 in
     let at-records-of = c .before .records-of in
     let at-if4 = c .if4 in
-    by-match _ _ _ _ _ (at-start .pre .1) _ _ _ (at-end-of .ensures) (at-list-of .ensures) (at-visits-made .ensures)
+    by-match _ _ _ _ _ (at-start .pre .1) _ _ _ _ (at-end-of .ensures) (at-list-of .ensures) (at-visits-made .ensures) (at-furthest .ensures)
     (matched (at-start .pre .0) _ (at-end-of .ensures) (at-if1 .left) (at-if2 .left)) _ _
-    (λ work. as-records _ _ _ _ _ work _ (sym (at-unread .ensures) ∙ at-if3 .left) (over-count _ _ (at-records-of .ensures) (at-if4 .taken)))
+    (λ work. as-records _ _ _ _ _ _ work _ (sym (at-unread .ensures) ∙ at-if3 .left) (over-count _ _ (at-records-of .ensures) (at-if4 .taken)))
 
 cast-if5 : tie.Need-cast-if5
 cast-if5 c = search needs
@@ -98,13 +108,14 @@ mul-if5 c = search needs
 add-if5 : tie.Need-add-if5
 add-if5 c = search needs
 
-cast-t23 : tie.Need-cast-t23
-cast-t23 c = search needs
+cast-t24 : tie.Need-cast-t24
+cast-t24 c = search needs
 
 returns-5 : tie.Need-returns-5
 returns-5 c =
-    let at-start = c .before .before .before .before .before .before .before .before .before .before .before .before .before in
-    let at-visits-made = c .before .before .before .before .before .before .before .before .before .visits-made in
+    let at-start = c .before .before .before .before .before .before .before .before .before .before .before .before .before .before in
+    let at-visits-made = c .before .before .before .before .before .before .before .before .before .before .visits-made in
+    let at-furthest = c .before .before .before .before .before .before .before .before .before .furthest-visited in
     let at-end-of = c .before .before .before .before .before .before .before .before .end-of in
     let at-list-of = c .before .before .before .before .before .before .before .list-of in
     let at-if1 = c .before .before .before .before .before .before .if1 in
@@ -117,13 +128,13 @@ returns-5 c =
     let q : at-records-of .result ≡ recordsOf (treesAt (at-start .args .work .now) (at-list-of .result)) = true-count _ (recordsOf (treesAt (at-start .args .work .now) (at-list-of .result))) (at-records-of .ensures) (at-if4 .left) in
     let b = at-if4 .left in
     let g = at-if5 .taken in
-    by-match _ _ _ _ _ (at-start .pre .1) _ _ _ (at-end-of .ensures) (at-list-of .ensures) (at-visits-made .ensures)
+    by-match _ _ _ _ _ (at-start .pre .1) _ _ _ _ (at-end-of .ensures) (at-list-of .ensures) (at-visits-made .ensures) (at-furthest .ensures)
     (matched (at-start .pre .0) _ (at-end-of .ensures) (at-if1 .left) (at-if2 .left)) _ _
-    (λ work. rw q (as-room _ _ _ _ _ work _ (sym (at-unread .ensures) ∙ at-if3 .left) (omega arith) (omega arith)))
+    (λ work. rw q (as-room _ _ _ _ _ _ work _ (sym (at-unread .ensures) ∙ at-if3 .left) (omega arith) (omega arith)))
 
 write-requires : tie.Need-write-requires
 write-requires c κs =
-    let at-start = c .before .before .before .before .before .before .before .before .before .before .before .before .before .before in
+    let at-start = c .before .before .before .before .before .before .before .before .before .before .before .before .before .before .before in
     let at-end-of = c .before .before .before .before .before .before .before .before .before .end-of in
     let at-list-of = c .before .before .before .before .before .before .before .before .list-of in
     let at-if1 = c .before .before .before .before .before .before .before .if1 in
@@ -136,16 +147,17 @@ write-requires c κs =
     let g = at-if5 .left in
     (arena-of (at-start .pre .0) _ (at-end-of .ensures) (at-if1 .left) (at-if2 .left) _ (at-list-of .ensures), ((omega arith, (omega arith, omega arith)), omega arith))
 
-cast-t19 : tie.Need-cast-t19
-cast-t19 c = search needs
+cast-t20 : tie.Need-cast-t20
+cast-t20 c = search needs
 
 same-length : tie.Need-same-length
 same-length c = search needs
 
 returns-6 : tie.Need-returns-6
 returns-6 c =
-    let at-start = c .before .before .before .before .before .before .before .before .before .before .before .before .before .before .before .before .before in
-    let at-visits-made = c .before .before .before .before .before .before .before .before .before .before .before .before .before .visits-made in
+    let at-start = c .before .before .before .before .before .before .before .before .before .before .before .before .before .before .before .before .before .before in
+    let at-visits-made = c .before .before .before .before .before .before .before .before .before .before .before .before .before .before .visits-made in
+    let at-furthest = c .before .before .before .before .before .before .before .before .before .before .before .before .before .furthest-visited in
     let at-end-of = c .before .before .before .before .before .before .before .before .before .before .before .before .end-of in
     let at-list-of = c .before .before .before .before .before .before .before .before .before .before .before .list-of in
     let at-if1 = c .before .before .before .before .before .before .before .before .before .before .if1 in
@@ -159,9 +171,9 @@ returns-6 c =
     let q : at-records-of .result ≡ recordsOf (treesAt (at-start .args .work .now) (at-list-of .result)) = true-count _ (recordsOf (treesAt (at-start .args .work .now) (at-list-of .result))) (at-records-of .ensures) (at-if4 .left) in
     let b = at-if4 .left in
     let g = at-if5 .left in
-    by-match _ _ _ _ _ (at-start .pre .1) _ _ _ (at-end-of .ensures) (at-list-of .ensures) (at-visits-made .ensures)
+    by-match _ _ _ _ _ (at-start .pre .1) _ _ _ _ (at-end-of .ensures) (at-list-of .ensures) (at-visits-made .ensures) (at-furthest .ensures)
     (matched (at-start .pre .0) _ (at-end-of .ensures) (at-if1 .left) (at-if2 .left)) _ _
-    (λ work. rw (q, at-write .ensures) (as-read _ _ _ _ _ work _ (sym (at-unread .ensures) ∙ at-if3 .left) (omega arith) (omega arith)))
+    (λ work. rw (q, at-write .ensures) (as-read _ _ _ _ _ _ work _ (sym (at-unread .ensures) ∙ at-if3 .left) (omega arith) (omega arith)))
 
 pub finish-spec : {M : Type 1} → statement M
 finish-spec =
@@ -169,10 +181,12 @@ finish-spec =
     (tie.spec
     visits-made-requires
     cast-made
+    furthest-visited-requires
+    cast-furthest
     end-of-requires
     list-of-requires
-    cast-t15
     cast-t16
+    cast-t17
     returns
     returns-2
     cast-end
@@ -183,9 +197,9 @@ finish-spec =
     cast-if5
     mul-if5
     add-if5
-    cast-t23
+    cast-t24
     returns-5
     write-requires
-    cast-t19
+    cast-t20
     same-length
     returns-6)

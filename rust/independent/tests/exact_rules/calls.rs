@@ -60,14 +60,27 @@ pub fn reads(table: &[u8], line: &[u8], allowance: u64, whole: bool) -> Outcome 
     outcome
 }
 
-pub fn answer(code: u64, place: u64, matched: u64, visits: u64, records: u64) -> Answer {
+pub fn answer(
+    code: u64,
+    place: u64,
+    matched: u64,
+    visits: u64,
+    records: u64,
+    furthest: u64,
+) -> Answer {
     Answer {
         code,
         place,
         matched,
         visits,
         records,
+        furthest,
     }
+}
+
+/// What comes back where the call is turned away: zeros after the place.
+pub fn turned_away(code: u64, place: u64) -> Answer {
+    answer(code, place, 0, 0, 0, 0)
 }
 
 pub fn prefix(table: &[u8], line: &[u8]) -> Answer {

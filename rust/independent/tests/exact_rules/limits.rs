@@ -9,8 +9,11 @@ fn lines_of_255_and_256_bytes() {
     // S <- 'a'*
     let sheet = table(&[1], &[(RANGE, 97, 97), (REPEAT, 0, 0)]);
     let line = [b'a'; 256];
-    assert_eq!(whole(&sheet, &line[..255]), answer(READ, 0, 255, 512, 1));
-    assert_eq!(whole(&sheet, &line), answer(LINE, 0, 0, 0, 0));
+    assert_eq!(
+        whole(&sheet, &line[..255]),
+        answer(READ, 0, 255, 512, 1, 255)
+    );
+    assert_eq!(whole(&sheet, &line), turned_away(LINE, 0));
 }
 
 #[test]
@@ -19,7 +22,7 @@ fn room_one_byte_short() {
     let enough = formula(&sheet, b"7+2", 22);
     assert_eq!(run(&sheet, b"7+2", 22, enough, 25, true).answer.code, READ);
     let short = run(&sheet, b"7+2", 22, enough, 24, true);
-    assert_eq!(short.answer, answer(ROOM, 3, 3, 22, 4));
+    assert_eq!(short.answer, answer(ROOM, 3, 3, 22, 4, 3));
     assert!(short.room.iter().all(|&byte| byte == FILL));
     assert!(short.work.iter().all(|&number| number == 0));
 }
@@ -30,7 +33,7 @@ fn working_numbers_one_short() {
     let enough = formula(&sheet, b"7+2", 22);
     assert_eq!(enough, 2_048 + 88 + 56);
     let short = run(&sheet, b"7+2", 22, enough - 1, 25, true);
-    assert_eq!(short.answer, answer(WORK, 0, 0, 0, 0));
+    assert_eq!(short.answer, turned_away(WORK, 0));
     assert!(nothing_changed(&short));
 }
 
@@ -107,8 +110,8 @@ fn five_hundred_and_twelve_visits_may_be_open() {
         nodes.push((NOT, child, 0));
     }
     let sheet = table(&[511], &nodes);
-    assert_eq!(prefix(&sheet, b""), answer(READ, 0, 0, 512, 1));
-    assert_eq!(prefix(&sheet, b"a"), answer(FAIL, 0, 0, 512, 0));
+    assert_eq!(prefix(&sheet, b""), answer(READ, 0, 0, 512, 1, 0));
+    assert_eq!(prefix(&sheet, b"a"), answer(FAIL, 0, 0, 512, 0, 0));
 }
 
 #[test]
@@ -133,7 +136,7 @@ fn effort_comes_before_deep() {
     assert_eq!(deep.code, DEEP);
     assert_eq!(
         reads(&sheet, &line, deep.visits, true).answer,
-        answer(EFFORT, deep.place, 0, deep.visits, 0)
+        answer(EFFORT, deep.place, 0, deep.visits, 0, deep.furthest)
     );
     assert_eq!(reads(&sheet, &line, deep.visits + 1, true).answer, deep);
 }

@@ -13,7 +13,7 @@ fn is_loop(table: &[u8], place: u64) {
         for (allowance, work) in [(0, 0), (0, 9_000), (1_000_001, 0), (100, 0), (100, 9_000)] {
             for whole in [false, true] {
                 let outcome = run(table, line, allowance, work, 30, whole);
-                assert_eq!(outcome.answer, answer(LOOP, place, 0, 0, 0));
+                assert_eq!(outcome.answer, turned_away(LOOP, place));
                 assert!(nothing_changed(&outcome));
             }
         }
@@ -45,7 +45,7 @@ fn an_option_repeated() {
     is_loop(&kilowatts_repeated(3), 5); // ()*
     let sheet = kilowatts_repeated(2); // 'kW'*
     is_accepted(&sheet);
-    assert_eq!(whole(&sheet, b"kWkW"), answer(READ, 0, 4, 11, 1));
+    assert_eq!(whole(&sheet, b"kWkW"), answer(READ, 0, 4, 11, 1, 4));
     is_accepted(&kilowatts_repeated(0)); // 'k'*
 }
 
@@ -182,7 +182,7 @@ fn every_node_is_tested_before_a_repetition_of_nothing_is_named() {
     ] {
         assert_eq!(check(&with(last)), (code, 2));
         assert_eq!(report(&with(last)).numbers(), [code, 2, 0, 0, 0, 64, 0]);
-        assert_eq!(prefix(&with(last), b"a"), answer(code, 2, 0, 0, 0));
+        assert_eq!(prefix(&with(last), b"a"), turned_away(code, 2));
     }
     let mut cut = with((REPEAT, 0, 0));
     cut.pop();

@@ -66,8 +66,8 @@ fn b_with_a_rule_unused_is_free() {
     let sheet = sheet_b_and(&[], 5, &[]);
     assert_eq!(report(&sheet), only_rule_2(true));
     assert_eq!(report(&sheet).numbers(), [0, 0, 0, 4, 1, 2, 1]);
-    assert_eq!(prefix(&sheet, b"1,5"), answer(READ, 0, 3, 8, 3));
-    assert_eq!(prefix(&sheet, b"1"), answer(READ, 0, 1, 7, 2));
+    assert_eq!(prefix(&sheet, b"1,5"), answer(READ, 0, 3, 8, 3, 2));
+    assert_eq!(prefix(&sheet, b"1"), answer(READ, 0, 1, 7, 2, 1));
 }
 
 #[test]
@@ -95,7 +95,7 @@ fn a_rule_reached_only_through_another() {
     // Rule 3 uses it still, but nothing uses rule 3.
     let sheet = sheet_b_and(&through, 5, &[6]);
     assert_eq!(report(&sheet), only_rule_2(true));
-    assert_eq!(prefix(&sheet, b"1,5"), answer(READ, 0, 3, 8, 3));
+    assert_eq!(prefix(&sheet, b"1,5"), answer(READ, 0, 3, 8, 3, 2));
 }
 
 #[test]
@@ -103,7 +103,7 @@ fn what_an_unused_rule_uses_does_not_matter() {
     // Rule 3 <- N R: it uses rule 0 and rule 2, and is used by none.
     let sheet = sheet_b_and(&[(RULE, 0, 0), (SEQ, 7, 6)], 5, &[8]);
     assert_eq!(report(&sheet), only_rule_2(true));
-    assert_eq!(prefix(&sheet, b"1,5"), answer(READ, 0, 3, 8, 3));
+    assert_eq!(prefix(&sheet, b"1,5"), answer(READ, 0, 3, 8, 3, 2));
 }
 
 #[test]

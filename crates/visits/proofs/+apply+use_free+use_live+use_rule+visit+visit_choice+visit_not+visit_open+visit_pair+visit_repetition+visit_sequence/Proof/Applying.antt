@@ -23,7 +23,7 @@ use Rattle.visits.specs.Given.{lent, rulesIn, leftIn, posIn}
 use Rattle.visits.specs.Says.{applies, Ends}
 use Rattle.visits.proofs.Steps.{came-at}
 use Rattle.visits.proofs.Ready.{node-known, ready-at, root-in}
-use Rattle.visits.proofs.ByKind.{apply-rule, apply-not, apply-repetition, apply-empty, apply-above, apply-range, uses-free, rule-used, not-child, repetition-child, keeps-yes, keeps-no, above-six}
+use Rattle.visits.proofs.ByKind.{apply-rule, apply-not, apply-repetition, apply-empty, apply-above, range-ends, uses-free, rule-used, not-child, repetition-child, keeps-yes, keeps-no, above-six}
 use Rattle.layout.proofs.Laying.{well-laid}
 use Rattle.visits.proofs.Opening.{roomy, open-applied, plain-opens}
 use Rattle.visits.proofs.+apply+use_free+use_live+use_rule+visit+visit_choice+visit_not+visit_open+visit_pair+visit_repetition+visit_sequence.Proof.Ranks.{apply-at, use-free-below, visit-not-below, visit-pair-below, visit-repetition-below}
@@ -82,14 +82,8 @@ apply-met t c =
     ))
     (⊎-elim
     (λ w.
-    let range = rw (w .3 .ensures) at (w .4 .ensures) in
-    rw (w .5, w .6) (
-      record {
-        came = came-at _ _ (fit .short) _ _ _ _ (range .0) (range .1) refl refl (apply-range _ _ fit _ _ _ (ready .node-in) (ready .words) (ready .made-in) (kind ∙ w .0 .keys2));
-        cells = omega arith;
-      },
-      refl,
-    ))
+    let range = rw (w .4 .ensures) at (w .5 .ensures) in
+    rw (w .6, w .7) (range-ends _ _ (at-start .args .spot) (at-start .args .node) _ ready (kind ∙ w .0 .keys2) (range .0) (range .1 .0), range .1 .1))
     (⊎-elim
     (λ w. rw (w .5, w .6) (
       record {
@@ -139,8 +133,8 @@ apply-pos-of-requires-2 t c κs = tt
 
 apply-visit-range-requires : (t : ℕ) → apply-lts.Need-visit-range-requires (apply-claims t) (apply-at t) apply.Post
 apply-visit-range-requires t c κs =
-    let ready = c .before .before .before .before .before .before .pre .1 .0 in
-    (node-known ready, (rw (c .pos-of2 .ensures) (ready .pos-in), ready .fit .short))
+    let ready = c .before .before .before .before .before .before .before .pre .1 .0 in
+    (node-known ready, ((rw (c .pos-of2 .ensures) (ready .pos-in), ready .fit .short), omega (arith, ready .words .room)))
 
 apply-a-of-requires : (t : ℕ) → apply-lts.Need-a-of-requires (apply-claims t) (apply-at t) apply.Post
 apply-a-of-requires t c κs = node-known (c .before .before .before .before .before .pre .1 .0)

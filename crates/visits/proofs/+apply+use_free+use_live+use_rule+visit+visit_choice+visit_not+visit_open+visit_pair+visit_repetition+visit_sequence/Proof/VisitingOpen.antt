@@ -13,11 +13,10 @@ use Rattle.visits.proofs.visit_range.Reads as visit-range-reads
 use Prim.Native.Nat.{_-_}
 use native.Mathlib.Omega.{arith}
 use mathlib.Core.Logic.{inl, inr}
-use mathlib.Core.Path.{refl, sym, _∙_}
+use mathlib.Core.Path.{sym, _∙_}
 use Rattle.visits.specs.Given.{lent, rulesIn, posIn}
-use Rattle.visits.proofs.Steps.{came-at}
 use Rattle.visits.proofs.Ready.{node-known, ready-at, root-in}
-use Rattle.visits.proofs.ByKind.{apply-rule, apply-range, rule-used}
+use Rattle.visits.proofs.ByKind.{apply-rule, range-ends, rule-used}
 use Rattle.visits.proofs.Opening.{plain-opens}
 use Rattle.visits.proofs.+apply+use_free+use_live+use_rule+visit+visit_choice+visit_not+visit_open+visit_pair+visit_repetition+visit_sequence.Proof.Ranks.{apply-below, use-rule-below, visit-open-at, visit-pair-below}
 
@@ -32,8 +31,8 @@ visit-open-pos-of-requires t c κs = tt
 
 visit-open-visit-range-requires : (t : ℕ) → visit-open-lts.Need-visit-range-requires (visit-open-claims t) (visit-open-at t) visit-open.Post
 visit-open-visit-range-requires t c κs =
-    let ready = c .before .before .before .before .before .before .pre .1 .0 in
-    (node-known ready, (rw (c .pos-of .ensures) (ready .pos-in), ready .fit .short))
+    let ready = c .before .before .before .before .before .before .before .pre .1 .0 in
+    (node-known ready, ((rw (c .pos-of .ensures) (ready .pos-in), ready .fit .short), omega (arith, ready .words .room)))
 
 visit-open-a-of-requires : (t : ℕ) → visit-open-lts.Need-a-of-requires (visit-open-claims t) (visit-open-at t) visit-open.Post
 visit-open-a-of-requires t c κs = node-known (c .before .before .before .before .before .pre .1 .0)
@@ -74,18 +73,14 @@ visit-open-apply-requires t c κs =
 
 visit-open-returns : (t : ℕ) → visit-open-lts.Need-returns (visit-open-claims t) (visit-open-at t) visit-open.Post
 visit-open-returns t c =
-    let at-start = c .before .before .before .before .before .before .before in
-    let at-kind-of = c .before .before .before .before .before .kind-of in
-    let at-match = c .before .before .before .before .match in
+    let at-start = c .before .before .before .before .before .before .before .before in
+    let at-kind-of = c .before .before .before .before .before .before .kind-of in
+    let at-match = c .before .before .before .before .before .match in
     let at-range = rw (c .before .pos-of .ensures) at (c .visit-range .ensures) in
-    let ready = at-start .pre .1 .0 in
-    let fit = ready .fit in (
+    let ready = at-start .pre .1 .0 in (
       plain-opens (lent (at-start .args .table .now .now) (at-start .args .given .now)) (at-start .args .line .now .now) (at-start .args .work .now .now) (at-start .args .spot) (at-start .args .node) (posIn (at-start .args .spot)) ready (at-start .pre .1 .1 .1) _ _
-          (record {
-            came = came-at _ _ (fit .short) _ _ _ _ (at-range .0) (at-range .1) refl refl (apply-range _ _ fit _ _ _ (ready .node-in) (ready .words) (ready .made-in) (sym (at-kind-of .ensures .0) ∙ at-match .keys1));
-            cells = omega arith;
-          }),
-      refl,
+          (range-ends _ _ (at-start .args .spot) (at-start .args .node) _ ready (sym (at-kind-of .ensures .0) ∙ at-match .keys1) (at-range .0) (at-range .1 .0)),
+      at-range .1 .1,
     )
 
 visit-open-returns-2 : (t : ℕ) → visit-open-lts.Need-returns-2 (visit-open-claims t) (visit-open-at t) visit-open.Post
