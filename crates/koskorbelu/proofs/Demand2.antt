@@ -6,8 +6,8 @@ use mathlib.Core.Logic.{_↔_, _≢_, _⊎_, inl, inr}
 use Prim.Native.Nat.{ℕ, suc, _+_, _<_, _≤_}
 use native.Mathlib.Omega.{arith}
 use lib.ListN.{length}
-use Rattle.meaning.specs.Grammar.{Closed, Answer}
-use Rattle.meaning.specs.Rules.{Amount, Reads}
+use Rattle.meaning.specs.Grammar.{rule, Closed, Answer}
+use Rattle.meaning.specs.Rules.{Plain, furthestOf, Amount, Reads}
 use Rattle.meaning.specs.Report.{Free}
 use Rattle.meaning.specs.Reading.{State, made, Run, readBy}
 use Rattle.meaning.proofs.Runs.{Ends}
@@ -103,6 +103,14 @@ module _ (c : Call) where
   was-taken (work w s l h) a = not-answering a (omega arith)
   was-taken (taken t h) a = t
 
+  -- Of a free sheet: the plain rules' answer, the only one, and the furthest position of their derivations.
+  pub plain-answer : Taken c → Free (grammar c) → {r : Answer} {s : State} → run c ≡ Run.done r s
+      → Plain (grammar c) (c .line) (rule 0) 0 r × ((q : Answer) (d : Plain (grammar c) (c .line) (rule 0) 0 q) → (q ≡ r) × (s .furthest ≡ furthestOf d))
+  plain-answer t free {r} {s} m =
+      let z : Plain (grammar c) (c .line) (rule 0) 0 r × ((q : Answer) (d : Plain (grammar c) (c .line) (rule 0) 0 q) → (r ≡ q) × (s .furthest ≡ furthestOf d)) =
+      rw m at (claims.free-sound (grammar c) (c .line) (c .allowance) (is-closed (t .sheet)) free) in
+      (z .0, λ q d. (sym (z .1 q d .0), z .1 q d .1))
+
   -- ---- The demand.
   by-rules : Taken c → {o : Outcome} → back c ≡ o → Came c o → Answers (code o) → Demand2 c (back c)
   by-rules t q (effort m) a = not-answering a (omega arith)
@@ -117,6 +125,7 @@ module _ (c : Call) where
         only = λ p k x. let i = found .1 .only p k x in (sym (i .answer), sym (i .count));
         said = rw q (ended-own h);
         reached = rw q (ended-furthest h ∙ found .2);
+        plain = λ free. let z = plain-answer t free m in (z .0, λ d. rw (q, ended-furthest h) (z .1 r d .1));
         others = λ not-free. rw (q, v) (exact-count not-free m (found .1 .reads));
         kept = λ free. rw (q, v) (kept-count free m);
       }

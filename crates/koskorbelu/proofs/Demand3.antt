@@ -1,5 +1,5 @@
 -- Demand 3: a free sheet is read within 2 x N x (L + 1) + 1 visits, never refused for effort where so many are allowed, and as the plain rules say.
-use mathlib.Core.Path.{_≡_, refl, sym, _∙_}
+use mathlib.Core.Path.{_≡_, refl, _∙_}
 use mathlib.Core.Logic.{_≢_}
 use Prim.Native.Nat.{ℕ, _+_, _*_, _≤_}
 use native.Mathlib.Nat.{mul-le-mul}
@@ -8,7 +8,7 @@ use lib.ListN.{length}
 use Rattle.meaning.specs.Grammar.{rule, Answer}
 use Rattle.meaning.specs.Rules.{Plain, furthestOf}
 use Rattle.meaning.specs.Report.{Free, bound}
-use Rattle.meaning.specs.Reading.{State, made, Run}
+use Rattle.meaning.specs.Reading.{State, made}
 use Rattle.meaning.proofs.Runs.{Ends}
 use Rattle.meaning.proofs.Claims as claims
 use Rattle.layout.proofs.Laying.{node-count}
@@ -16,7 +16,7 @@ use Rattle.sheet.specs.Given.{WellFormed}
 use Rattle.reader.specs.Answer.{EFFORT, DEEP, longestLine, Outcome}
 use Rattle.koskorbelu.specs.Demands.{Call, back, code, visits, furthest, grammar, run, Ended, Came, effort, deep, done, Taken, Demand3}
 use Rattle.koskorbelu.proofs.Demand1.{came}
-use Rattle.koskorbelu.proofs.Demand2.{ended-visits, ended-furthest, ended-own, is-closed, has-rule, no-effort}
+use Rattle.koskorbelu.proofs.Demand2.{ended-visits, ended-furthest, ended-own, is-closed, plain-answer, has-rule, no-effort}
 
 module _ (c : Call) where
   -- No call needs a larger allowance than this.
@@ -43,14 +43,6 @@ module _ (c : Call) where
     pub few-visits : visits (back c) ≤ bound (grammar c) (c .line)
     few-visits = few (came c t)
 
-    -- The plain rules' answer, the only one, and the furthest position of their derivations.
-    plain-answer : {r : Answer} {s : State} → run c ≡ Run.done r s
-        → Plain (grammar c) (c .line) (rule 0) 0 r × ((q : Answer) (d : Plain (grammar c) (c .line) (rule 0) 0 q) → (q ≡ r) × (s .furthest ≡ furthestOf d))
-    plain-answer {r} {s} m =
-        let z : Plain (grammar c) (c .line) (rule 0) 0 r × ((q : Answer) (d : Plain (grammar c) (c .line) (rule 0) 0 q) → (r ≡ q) × (s .furthest ≡ furthestOf d)) =
-        rw m at (claims.free-sound (grammar c) (c .line) (c .allowance) (is-closed c (t .sheet)) free) in
-        (z .0, λ q d. (sym (z .1 q d .0), z .1 q d .1))
-
     module _ (enough : bound (grammar c) (c .line) ≤ c .allowance) where
       never-effort : {o : Outcome} → Came c o → code o ≢ EFFORT
       never-effort (effort m) e =
@@ -63,7 +55,7 @@ module _ (c : Call) where
           × Ended c (visits o) (furthest o) r o
       plainly (effort m) n = absurd (never-effort (effort m) refl)
       plainly (deep m) n = absurd (n refl)
-      plainly (done {r = r} m h) n = let z = plain-answer m in (r, z .0, (λ q d. (z .1 q d .0, ended-furthest c h ∙ z .1 q d .1)), ended-own c h)
+      plainly (done {r = r} m h) n = let z = plain-answer c t free m in (r, z .0, (λ q d. (z .1 q d .0, ended-furthest c h ∙ z .1 q d .1)), ended-own c h)
 
       pub demand-3 : Demand3 c (back c)
       demand-3 = record { never = never-effort (came c t); few = few-visits; plain = plainly (came c t) }

@@ -126,6 +126,8 @@ pub record Demand2 (c : Call) (o : Outcome) : Type 0 where
   pub said : Ended c (visits o) (furthest o) answer o
   -- 02, W-203: "the largest position at which a range node was visited" in that derivation, whatever was kept.
   pub reached : furthest o ≡ amount .furthest
+  -- On a free sheet the plain rules answer so too, and it is that of each derivation by them.
+  pub plain : Free (grammar c) → Plain (grammar c) (c .line) (rule 0) 0 answer × ((d : Plain (grammar c) (c .line) (rule 0) 0 answer) → furthest o ≡ furthestOf d)
   -- 01, "All others.": every visit of that derivation.
   pub others : ¬ Free (grammar c) → visits o ≡ amount .visits
   -- 01, "Free grammars.": the visits of the reading that keeps answers, whatever number is to spare.
