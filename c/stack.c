@@ -132,30 +132,43 @@ static void range_at_the_bottom(void)
     measure("509 nots over a live use, over a range", call_read, KOS_READ);
 }
 
+/* A free sheet keeps answers. In another a use becomes live if its rule is left-recursive, and is tried once if not. */
+enum sort { FREE, ONCE, LIVE };
+#define NAME(what, sort) \
+    (sort == FREE ? what " to 512, free" : sort == ONCE ? what " to 512, none live" : what " to 512, all live")
+
 /* An 'a'. Where nothing shall be kept, or else a rule that begins with itself: this one, the last. */
-static size_t byte_or_rule(int is_free, size_t last)
+static size_t byte_or_rule(enum sort sort, size_t last)
 {
     size_t byte = add_node(&table, RANGE, 'a', 'a');
-    return is_free ? byte : add_node(&table, CHOICE, byte, add_node(&table, RULE, last, 0));
+    return sort == FREE ? byte : add_node(&table, CHOICE, byte, add_node(&table, RULE, last, 0));
 }
 
-static void end(int is_free)
+/* The node; and where rule 0 shall be live, a use of it that is come to only if the node fails. */
+static size_t or_rule_0(enum sort sort, size_t node, size_t use)
 {
-    if (!is_free) add_root(&table, add_node(&table, RULE, table.rule_count, 0));
+    return sort == LIVE ? add_node(&table, CHOICE, node, use) : node;
+}
+
+static void end(enum sort sort)
+{
+    if (sort != FREE) add_root(&table, add_node(&table, RULE, table.rule_count, 0));
     finish(&table);
     call_report();
-    must(answer[KOS_AT_FREE] == (uint64_t)is_free, "not as free as is meant");
+    must(answer[KOS_AT_FREE] == (sort == FREE), "not as free as is meant");
+    must((answer[KOS_AT_LOWEST] == 0) == (sort == LIVE), "not as live as is meant");
 }
 
 /* T <- 'a' T / empty, three visits deeper with each byte. */
-static void right_recursion(int is_free)
+static void right_recursion(enum sort sort)
 {
     begin(KOS_MOST_LINE);
-    size_t byte = byte_or_rule(is_free, 1), use = add_node(&table, RULE, 0, 0);
+    size_t byte = byte_or_rule(sort, 1), use = add_node(&table, RULE, 0, 0);
     size_t longer = add_node(&table, SEQUENCE, byte, use);
-    add_root(&table, add_node(&table, CHOICE, longer, add_node(&table, EMPTY, 0, 0)));
-    end(is_free);
-    measure(is_free ? "right recursion to 512, free" : "right recursion to 512, live uses", call_read, KOS_DEEP);
+    size_t other = or_rule_0(sort, add_node(&table, EMPTY, 0, 0), use);
+    add_root(&table, add_node(&table, CHOICE, longer, other));
+    end(sort);
+    measure(NAME("right recursion", sort), call_read, KOS_DEEP);
     must(answer[KOS_AT_FURTHEST] > 0 && answer[KOS_AT_FURTHEST] <= answer[KOS_AT_PLACE], "not as far as is meant");
 }
 
@@ -163,25 +176,25 @@ static void right_recursion(int is_free)
  * ((..('a'* 'b')* 'b')* ..)* on 255 'a': 128 repetitions, each with a sequence below it, and in the innermost one visit
  * more with each byte. No deeper row of repetitions alone is accepted, since each takes a byte.
  */
-static void repetitions(int is_free)
+static void repetitions(enum sort sort)
 {
     begin(KOS_MOST_LINE);
-    size_t last = add_node(&table, RANGE, 'b', 'b'), top = byte_or_rule(is_free, 1);
+    size_t last = add_node(&table, RANGE, 'b', 'b'), top = byte_or_rule(sort, 1);
     for (size_t i = 0; i < 128; i++) top = add_node(&table, SEQUENCE, add_node(&table, REPETITION, top, 0), last);
     add_root(&table, add_node(&table, REPETITION, top, 0));
-    end(is_free);
-    measure(is_free ? "repetitions to 512, free" : "repetitions to 512, over live uses", call_read, KOS_DEEP);
+    end(sort);
+    measure(NAME("repetitions", sort), call_read, KOS_DEEP);
 }
 
 /* A ring of 62 rules, each the next one; the last goes one byte on. Nearly every open visit is a use. */
-static void ring(int is_free)
+static void ring(enum sort sort)
 {
     begin(KOS_MOST_LINE);
     for (size_t rule = 1; rule < 62; rule++) add_root(&table, add_node(&table, RULE, rule, 0));
-    size_t byte = byte_or_rule(is_free, 62), first = add_node(&table, RULE, 0, 0);
-    add_root(&table, add_node(&table, SEQUENCE, byte, first));
-    end(is_free);
-    measure(is_free ? "uses to 512, free" : "uses to 512, all live", call_read, KOS_DEEP);
+    size_t byte = byte_or_rule(sort, 62), first = add_node(&table, RULE, 0, 0);
+    add_root(&table, or_rule_0(sort, add_node(&table, SEQUENCE, byte, first), first));
+    end(sort);
+    measure(NAME("uses", sort), call_read, KOS_DEEP);
 }
 
 /* S <- W 'a' / 'a'; W <- V; and so on back to S: nine records a byte, each inside the next. */
@@ -257,10 +270,11 @@ int main(void)
     printf("   bytes  of stack\n");
     for (size_t i = 0; i < sizeof chains / sizeof chains[0]; i++) measure_chain(&chains[i]);
     range_at_the_bottom();
-    for (int is_free = 0; is_free <= 1; is_free++) {
-        right_recursion(is_free);
-        repetitions(is_free);
-        ring(is_free);
+    repetitions(FREE);
+    repetitions(ONCE);
+    for (enum sort sort = FREE; sort <= LIVE; sort++) {
+        right_recursion(sort);
+        ring(sort);
     }
     nested_records();
     records_in_a_row();

@@ -8,8 +8,8 @@ use native.Mathlib.Omega.{arith}
 use lib.Dec.{ltb}
 use lib.ListN.{length}
 use Rattle.meaning.specs.Grammar.{Answer, fail, ok}
-use Rattle.meaning.specs.Decide.{isFree}
-use Rattle.meaning.specs.Reading.{State, made, Run, read}
+use Rattle.meaning.specs.Decide.{leftRecursive, isFree}
+use Rattle.meaning.specs.Reading.{State, made, Run, Way, wayOf, read}
 use Rattle.meaning.proofs.Choose.{by-test-twice}
 use Rattle.stored.specs.Stored.{recordsOf, storedLength}
 use Rattle.reader.specs.declared.Reading.{Reading}
@@ -22,6 +22,10 @@ use Rattle.koskorbelu.proofs.Demand2.{not-answering, ended-visits, ende
 -- The same call with another allowance, and with other working numbers.
 abbrev pub allowing : Call → (allowance : ℕ) → (work : List ℕ) → Call
 allowing c allowance work = record { whole = c .whole; table = c .table; line = c .line; allowance = allowance; work = work; room = c .room }
+
+-- The way in which its line is read.
+abbrev way : Call → Way
+way c = wayOf (isFree (grammar c)) (leftRecursive (grammar c))
 
 -- The same six numbers, and the same room.
 pub record Alike (o p : Outcome) : Type 0 where
@@ -53,9 +57,9 @@ module _ (c : Call) (t : Taken c) (a : ℕ) (w : List ℕ) (t′ : Taken (allowi
   read-alike h le =
       let k = answered (came c t) h in
       let v = k .3 in
-      let n = done-always (grammar c) (c .line) (isFree (grammar c)) (c .allowance) (k .0) (k .1) (k .2) in
+      let n = done-always (grammar c) (c .line) (way c) (c .allowance) (k .0) (k .1) (k .2) in
       let s = n .1 in
-      let m = larger (grammar c) (c .line) (isFree (grammar c)) a (n .0) (k .1 .furthest) 0 (Run.done (k .0)) (n .2) (omega arith) in
+      let m = larger (grammar c) (c .line) (way c) a (n .0) (k .1 .furthest) 0 (Run.done (k .0)) (n .2) (omega arith) in
       let l = m .1 in
       let same : made a (m .0) ≡ made (c .allowance) (k .1) = omega arith in
       rw (by-answer c t (k .0) (k .1) (k .2), by-answer (allowing c a w) t′ (k .0) (m .0) (m .3), same, m .2) (told-alike (made (c .allowance) (k .1)) (k .1 .furthest) (k .0))
@@ -65,9 +69,9 @@ module _ (c : Call) (t : Taken c) (a : ℕ) (w : List ℕ) (t′ : Taken (allowi
   deep-alike e le =
       let k = refused (came c t) e in
       let v : visits (back c) ≡ made (c .allowance) (k .1) = ap visits (k .3) in
-      let n = deep-always (grammar c) (c .line) (isFree (grammar c)) (c .allowance) (k .0) (k .1) (k .2) in
+      let n = deep-always (grammar c) (c .line) (way c) (c .allowance) (k .0) (k .1) (k .2) in
       let s = n .1 in
-      let m = larger (grammar c) (c .line) (isFree (grammar c)) a (n .0) (k .1 .furthest) 1 (Run.deep (k .0)) (n .2) (omega arith) in
+      let m = larger (grammar c) (c .line) (way c) a (n .0) (k .1 .furthest) 1 (Run.deep (k .0)) (n .2) (omega arith) in
       let l = m .1 in
       let same : made a (m .0) ≡ made (c .allowance) (k .1) = omega arith in
       let there : back (allowing c a w) ≡ ended (allowing c a w) DEEP (k .0) 0 (made a (m .0)) 0 (m .0 .furthest) = gives (allowing c a w) (taken t′ (deep (m .3))) in
@@ -78,7 +82,7 @@ module _ (c : Call) (t : Taken c) (a : ℕ) (w : List ℕ) (t′ : Taken (allowi
   effort-below h lt =
       let k = answered (came c t) h in
       let v = k .3 in
-      let m = fewer (grammar c) (c .line) (isFree (grammar c)) (c .allowance) a (k .0) (k .1) (k .2) (omega arith) in
+      let m = fewer (grammar c) (c .line) (way c) (c .allowance) a (k .0) (k .1) (k .2) (omega arith) in
       ap code (gives (allowing c a w) (taken t′ (effort (m .2))))
 
   pub effort-exactly : Answers (code (back c)) → (code (back (allowing c a w)) ≡ EFFORT) ↔ (a < visits (back c))

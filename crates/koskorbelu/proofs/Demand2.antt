@@ -1,5 +1,6 @@
--- Demand 2: a line that is read to its answer has the bounded rules' match and tree, the only ones, in the visits that 01 counts and with their furthest position. Beyond it: there always is such an
--- answer, and on a sheet that is not free it comes back wherever the allowance suffices, or DEEP does.
+-- Demand 2: a line that is read to its answer has the bounded rules' match and tree, the only ones, in the visits that 01 counts and with their furthest position; they are those where every rule
+-- becomes live. Beyond it: there always is such an answer; on a sheet that is not free it comes back exactly where the allowance suffices and no more than 512 visits are open at once; and
+-- it comes back wherever it did when every rule became live, in no more visits.
 use mathlib.Core.Path.{_≡_, refl, sym, ap, subst, _∙_}
 use mathlib.Core.Bool.{true}
 use mathlib.Core.Logic.{_↔_, _≢_, _⊎_, inl, inr}
@@ -7,14 +8,16 @@ use Prim.Native.Nat.{ℕ, suc, _+_, _<_, _≤_}
 use native.Mathlib.Omega.{arith}
 use lib.ListN.{length}
 use Rattle.meaning.specs.Grammar.{rule, Closed, Answer}
-use Rattle.meaning.specs.Rules.{Plain, furthestOf, Amount, Reads}
+use Rattle.meaning.specs.Rules.{Plain, furthestOf, Amount, everyRule, Reads}
 use Rattle.meaning.specs.Report.{Free}
-use Rattle.meaning.specs.Reading.{State, made, Run, readBy}
+use Rattle.meaning.specs.Decide.{leftRecursive}
+use Rattle.meaning.specs.Reading.{State, made, Run, keeps, grows, readBy}
 use Rattle.meaning.proofs.Runs.{Ends}
-use Rattle.meaning.proofs.Amounts.{amounts}
+use Rattle.meaning.proofs.Amounts.{Amounts}
 use Rattle.meaning.proofs.Claims as claims
 use Rattle.meaning.proofs.Claims.{Only}
 use Rattle.meaning.proofs.OneBounded.{one-reading}
+use Rattle.meaning.proofs.Complete.{read-complete}
 use Rattle.layout.specs.declared.Verdict.{Verdict}
 use Rattle.layout.specs.Layout.{READ, FIELD}
 use Rattle.layout.proofs.Exact.{laid-iff}
@@ -24,10 +27,10 @@ use Rattle.sheet.specs.Given.{WellFormed}
 use Rattle.sheet.proofs.Exact.{given-iff, check-code}
 use Rattle.reader.specs.Answer.{EFFORT, DEEP, FAIL, ROOM, Outcome}
 use Rattle.koskorbelu.specs.Demands.{Call, back, code, visits, furthest, grammar, run, Ended, fails, rest, records, room, reads, Came, effort, deep, done, Taken, Given, check, line, allow}
-use Rattle.koskorbelu.specs.Demands.{work, taken, Answers, Demand2}
+use Rattle.koskorbelu.specs.Demands.{work, taken, Answers, Published, Demand2}
 use Rattle.koskorbelu.proofs.Demand1.{gives, came, given}
 use Rattle.koskorbelu.proofs.Rows.{exactly}
-use Rattle.koskorbelu.proofs.Steady.{done-always}
+use Rattle.koskorbelu.proofs.Steady.{done-always, deep-always}
 
 -- 0, or 13 to 16.
 answering : {k : ℕ} → Answers k → (k ≡ READ) ⊎ ((FAIL ≤ k) × (k ≤ ROOM))
@@ -116,13 +119,16 @@ module _ (c : Call) where
   by-rules t q (effort m) a = not-answering a (omega arith)
   by-rules t q (deep m) a = not-answering a (omega arith)
   by-rules t {o} q (done {r = r} {s = s} m h) a =
-      let found : (n : Amount) × Only (grammar c) (c .line) r n × (s .furthest ≡ n .furthest) = rw m at (claims.read-bounded (grammar c) (c .line) (c .allowance)) in
+      let found : (n : Amount) × Only (grammar c) (c .line) (leftRecursive (grammar c)) r n × (s .furthest ≡ n .furthest) = rw m at (claims.read-bounded (grammar c) (c .line) (c .allowance)) in
+      let every = claims.every-reading (grammar c) (c .line) (is-closed (t .sheet)) (has-rule (t .sheet)) (found .1 .reads) in
       let v : visits o ≡ made (c .allowance) s = ended-visits h in
       record {
         answer = r;
         amount = found .0;
         rules = found .1 .reads;
         only = λ p k x. let i = found .1 .only p k x in (sym (i .answer), sym (i .count));
+        every = (every .0, every .1);
+        every-only = λ p k x. one-reading (grammar c) (c .line) everyRule x (every .1) .answer;
         said = rw q (ended-own h);
         reached = rw q (ended-furthest h ∙ found .2);
         plain = λ free. let z = plain-answer t free m in (z .0, λ d. rw (q, ended-furthest h) (z .1 r d .1));
@@ -130,19 +136,20 @@ module _ (c : Call) where
         kept = λ free. rw (q, v) (kept-count free m);
       }
     where
-      exact-count : ¬ Free (grammar c) → {r : Answer} {s : State} {n : Amount} → run c ≡ Run.done r s → Reads (grammar c) (c .line) r n → made (c .allowance) s ≡ n .visits
+      exact-count : ¬ Free (grammar c) → {r : Answer} {s : State} {n : Amount} → run c ≡ Run.done r s → Published c r n → made (c .allowance) s ≡ n .visits
       exact-count not-free {r = r} {s = s} m h =
-          let only : Only (grammar c) (c .line) r (amounts (c .allowance) s) = rw m at (claims.other-sound (grammar c) (c .line) (c .allowance) (is-closed (t .sheet)) not-free) in
-          ap (λ (n : Amount). n .visits) (one-reading (grammar c) (c .line) (only .reads) h .count)
+          let found : (n : Amount) × Only (grammar c) (c .line) (leftRecursive (grammar c)) r n × Amounts (c .allowance) n s =
+          rw m at (claims.other-sound (grammar c) (c .line) (c .allowance) (is-closed (t .sheet)) not-free) in
+          sym (found .2 .visits) ∙ ap (λ (n : Amount). n .visits) (one-reading (grammar c) (c .line) (leftRecursive (grammar c)) (found .1 .reads) h .count)
 
       kept-count : Free (grammar c) → {r : Answer} {s : State} → run c ≡ Run.done r s
-          → (spare : ℕ) → (u : State) × (u .left ≡ spare) × (readBy (grammar c) (c .line) true (made (c .allowance) s + spare) ≡ Run.done r u)
+          → (spare : ℕ) → (u : State) × (u .left ≡ spare) × (readBy (grammar c) (c .line) keeps (made (c .allowance) s + spare) ≡ Run.done r u)
       kept-count free {r = r} {s = s} m j =
-          let h = done-always (grammar c) (c .line) true (c .allowance) r s (sym (claims.as-free (grammar c) (c .line) (c .allowance) (is-closed (t .sheet)) free) ∙ m) in
+          let h = done-always (grammar c) (c .line) keeps (c .allowance) r s (sym (claims.as-free (grammar c) (c .line) (c .allowance) (is-closed (t .sheet)) free) ∙ m) in
           let e = h .1 in
           let n : made (c .allowance) s + j ≡ h .0 + j = omega arith in
           let k = h .2 j (omega arith) in
-          (k .0, k .1, ap (readBy (grammar c) (c .line) true) n ∙ k .3)
+          (k .0, k .1, ap (readBy (grammar c) (c .line) keeps) n ∙ k .3)
 
   pub demand-2 : Answers (code (back c)) → Demand2 c (back c)
   demand-2 a = let t = was-taken (given c) a in by-rules t refl (came c t) a
@@ -190,24 +197,45 @@ module _ (c : Call) where
       let z : (0 < h .1 .1 .left) × (made (c .allowance) (h .1 .1) + h .1 .1 .left ≡ c .allowance) = rw (h .1 .2) at (claims.effort-made (grammar c) (c .line) (c .allowance)) in
       rw (gives c (taken (h .0) (deep (h .1 .2)))) (omega (arith, z .0, z .1))
 
-  module _ (t : Taken c) (not-free : ¬ Free (grammar c)) {r : Answer} {n : Amount} (h : Reads (grammar c) (c .line) r n) where
-    -- Where the bounded rules answer in n visits and so many are allowed, that is what comes back, in n visits and with their furthest position, or DEEP.
-    pub complete : n .visits ≤ c .allowance → (code (back c) ≡ DEEP) ⊎ Ended c (n .visits) (n .furthest) r (back c)
+  module _ (t : Taken c) (not-free : ¬ Free (grammar c)) {r : Answer} {n : Amount} (h : Published c r n) where
+    -- Where the bounded rules answer in n visits and so many are allowed, that is what comes back, in n visits and with their furthest position, or DEEP, if more than
+    -- 512 are open at once.
+    pub complete : n .visits ≤ c .allowance → ((code (back c) ≡ DEEP) × (512 < n .depth)) ⊎ Ended c (n .visits) (n .furthest) r (back c)
     complete le = of (came c t) refl
       where
-        of : {o : Outcome} → Came c o → back c ≡ o → (code (back c) ≡ DEEP) ⊎ Ended c (n .visits) (n .furthest) r (back c)
+        of : {o : Outcome} → Came c o → back c ≡ o → ((code (back c) ≡ DEEP) × (512 < n .depth)) ⊎ Ended c (n .visits) (n .furthest) r (back c)
         of (effort m) q = absurd (rw m at (claims.other-complete (grammar c) (c .line) (c .allowance) (is-closed (t .sheet)) not-free h le))
-        of (deep m) q = inl (ap code q)
+        of (deep m) q =
+            let z : 512 < n .depth = rw m at (claims.other-complete (grammar c) (c .line) (c .allowance) (is-closed (t .sheet)) not-free h le) in
+            inl (ap code q, z)
         of {o} (done {r = r′} {s = s} m k) q =
-            let z : (r′ ≡ r) × (amounts (c .allowance) s ≡ n) = rw m at (claims.other-complete (grammar c) (c .line) (c .allowance) (is-closed (t .sheet)) not-free h le) in
-            inr (rw (q, ← (z .0)) (subst (λ (a : Amount). Ended c (a .visits) (a .furthest) r′ o) (z .1) k))
+            let z : (r′ ≡ r) × Amounts (c .allowance) n s = rw m at (claims.other-complete (grammar c) (c .line) (c .allowance) (is-closed (t .sheet)) not-free h le) in
+            inr (rw (q, ← (z .0), z .1 .visits, z .1 .furthest) k)
+
+    -- DEEP comes back only if more than 512 visits are open at once, whatever is allowed; and then no answer does.
+    pub deep-only : code (back c) ≡ DEEP → 512 < n .depth
+    deep-only e =
+        let m = exactly c DEEP .0 e in
+        let g = grammar c in
+        let l = leftRecursive g in
+        let k = deep-always g (c .line) (grows l) (c .allowance) (m .1 .0) (m .1 .1) (sym (claims.as-other g (c .line) (c .allowance) (is-closed (t .sheet)) not-free) ∙ m .1 .2) in
+        let d = k .2 (suc (n .visits)) (omega arith) in
+        rw (d .3) at (read-complete g (c .line) l h (k .0 + suc (n .visits)) (omega arith))
+
+    pub too-deep : 512 < n .depth → Answers (code (back c)) → ⊥
+    too-deep lt a = of (came c t) a
+      where
+        of : {o : Outcome} → Came c o → Answers (code o) → ⊥
+        of (effort m) a = not-answering a (omega arith)
+        of (deep m) a = not-answering a (omega arith)
+        of (done m k) a = rw m at (claims.other-deep (grammar c) (c .line) (c .allowance) (is-closed (t .sheet)) not-free h lt)
 
     -- Unless DEEP comes back, EFFORT does exactly if fewer visits are allowed.
     pub effort-exactly : code (back c) ≢ DEEP → (code (back c) ≡ EFFORT) ↔ (c .allowance < n .visits)
     effort-exactly shallow = ((λ e. let few : ¬ (n .visits ≤ c .allowance) = λ le. not-both e (complete le) in omega arith), (λ l. of l (came c t) refl))
       where
-        not-both : code (back c) ≡ EFFORT → (code (back c) ≡ DEEP) ⊎ Ended c (n .visits) (n .furthest) r (back c) → ⊥
-        not-both e (inl d) = omega arith
+        not-both : code (back c) ≡ EFFORT → ((code (back c) ≡ DEEP) × (512 < n .depth)) ⊎ Ended c (n .visits) (n .furthest) r (back c) → ⊥
+        not-both e (inl d) = let z = d .0 in omega arith
         not-both e (inr k) = no-effort k e
 
         of : c .allowance < n .visits → {o : Outcome} → Came c o → back c ≡ o → code (back c) ≡ EFFORT
@@ -215,6 +243,21 @@ module _ (c : Call) where
         of l (deep m) q = absurd (shallow (ap code q))
         of l (done m k) q = absurd (rw m at (claims.other-short (grammar c) (c .line) (c .allowance) (is-closed (t .sheet)) not-free h l))
 
+  -- 02, W-205: where the reading in which every rule becomes live is not refused, neither is the call, and it has the same answer and furthest position in no more visits.
+  pub as-before : (t : Taken c) {r : Answer} {s : State} → claims.readBefore (grammar c) (c .line) (c .allowance) ≡ Run.done r s
+      → (v : ℕ) × (v ≤ made (c .allowance) s) × Ended c v (s .furthest) r (back c)
+  as-before t {r} {s} e = of (came c t) refl
+    where
+      too : claims.DoneToo (grammar c) (c .line) (c .allowance) r s (run c)
+      too = rw e at (claims.as-before (grammar c) (c .line) (c .allowance) (is-closed (t .sheet)) (has-rule (t .sheet)))
+
+      of : {o : Outcome} → Came c o → back c ≡ o → (v : ℕ) × (v ≤ made (c .allowance) s) × Ended c v (s .furthest) r (back c)
+      of (effort m) q = absurd (rw m at too)
+      of (deep m) q = absurd (rw m at too)
+      of (done {r = r′} {s = u} m k) q =
+          let z : (r′ ≡ r) × (u .furthest ≡ s .furthest) × (made (c .allowance) u ≤ made (c .allowance) s) = rw m at too in
+          (made (c .allowance) u, z .2, rw (q, ← (z .0), ← (z .1)) k)
+
   -- Document 003's Lemma 2: every accepted table has an answer on every line.
-  pub answered : WellFormed (c .table) → (r : Answer) × (n : Amount) × Only (grammar c) (c .line) r n
+  pub answered : WellFormed (c .table) → (r : Answer) × (n : Amount) × Only (grammar c) (c .line) (leftRecursive (grammar c)) r n
   answered w = claims.answered (grammar c) (c .line) (is-closed w) (has-rule w)

@@ -2,6 +2,7 @@
 use mathlib.Core.Path.{_≡_, refl}
 use mathlib.Core.Logic.{_⊎_, inl, inr}
 use Prim.Native.Nat.{ℕ, _<_, _≤_}
+use mathlib.Core.Bool.{Bool}
 use mathlib.Core.List.{List}
 use mathlib.Core.Option.{some}
 use lib.ListN.{length}
@@ -16,7 +17,7 @@ use Rattle.stored.specs.Stored.{numberOf}
 use Rattle.stored.specs.Nested.{Nested}
 use Rattle.stored.proofs.Nested.{nested-join}
 
-module _ (g : Grammar) (line : List ℕ) (good : Closed g) where
+module _ (g : Grammar) (line : List ℕ) (live : ℕ → Bool) (good : Closed g) where
   abbrev rules : ℕ
   rules = length (g .roots)
 
@@ -54,7 +55,7 @@ module _ (g : Grammar) (line : List ℕ) (good : Closed g) where
   at-rule a x fail h s = tt
   at-rule a x (ok y ts) h s = (h, (omega arith, (s, omega arith)))
 
-  nests : {l : List Note} {p : Goal} {x : ℕ} {n : Amount} {r : Answer} → Bounded g line l p x r n → Held l → Goes p x r
+  nests : {l : List Note} {p : Goal} {x : ℕ} {n : Amount} {r : Answer} → Bounded g line live l p x r n → Held l → Goes p x r
   unfolding Nested
   nests R.empty1 f = λ k. omega arith
   nests (R.char1 q) f = λ k. omega arith
@@ -70,10 +71,11 @@ module _ (g : Grammar) (line : List ℕ) (good : Closed g) where
   nests (R.rep1 h) f = λ k. omega arith
   nests (R.rep2 {a = a} {x = x} {y = y} {z = z} {ts = ts} {us = us} h q j) f = λ k. nested-join rules x y z ts us (nests h f (child (k .0) a (k .1) (k .2))) (nests j f k)
   nests (R.rep3 h) f = λ k. omega arith
-  nests (R.lvar1 {l = l} {a = a} {x = x} {r = r} q h j) f =
+  nests (R.var {a = a} {x = x} {r = r} w h) f = λ k. at-rule a x r (k .2) (nests h f (the-root a (k .2)))
+  nests (R.lvar1 {l = l} {a = a} {x = x} {r = r} w q h j) f =
       λ k. at-rule a x r (k .2) (nests j f (k .2) (nests h (held-more l a x fail tt f) (the-root a (k .2))))
-  nests (R.lvar2 q h) f = λ k. tt
-  nests (R.lvar3 {a = a} {x = x} {r = r} q) f = λ k. at-rule a x r (k .2) (f a x r q)
+  nests (R.lvar2 w q h) f = λ k. tt
+  nests (R.lvar3 {a = a} {x = x} {r = r} w q) f = λ k. at-rule a x r (k .2) (f a x r q)
   nests (R.inc1 {l = l} {a = a} {x = x} {e = e} {ts = ts} h q j) f = λ k s. nests j f k (nests h (held-more l a x (ok e ts) s f) (the-root a k))
   nests (R.inc2 h) f = λ k s. s
   nests (R.inc3 h q) f = λ k s. s
@@ -84,10 +86,11 @@ module _ (g : Grammar) (line : List ℕ) (good : Closed g) where
   one-tree a x fail h = never′ h
   one-tree a x (ok y us) h = rw (← trees h)
 
-  single : {l : List Note} {a x : ℕ} {n : Amount} {r : Answer} → Bounded g line l (at (rule a)) x r n → {e : ℕ} {ts : Trees} → r ≡ ok e ts → numberOf ts ≡ 1
-  single (R.lvar1 {a = a} {x = x} {r = r} q h j) e = one-tree a x r e
-  single (R.lvar2 q h) e = never′ e
-  single (R.lvar3 {a = a} {x = x} {r = r} q) e = one-tree a x r e
+  single : {l : List Note} {a x : ℕ} {n : Amount} {r : Answer} → Bounded g line live l (at (rule a)) x r n → {e : ℕ} {ts : Trees} → r ≡ ok e ts → numberOf ts ≡ 1
+  single (R.var {a = a} {x = x} {r = r} w h) e = one-tree a x r e
+  single (R.lvar1 {a = a} {x = x} {r = r} w q h j) e = one-tree a x r e
+  single (R.lvar2 w q h) e = never′ e
+  single (R.lvar3 {a = a} {x = x} {r = r} w q) e = one-tree a x r e
 
   -- What a reading makes: one tree, nested, inside the line.
   pub record Whole (e : ℕ) (ts : Trees) : Type 0 where
@@ -95,7 +98,7 @@ module _ (g : Grammar) (line : List ℕ) (good : Closed g) where
     pub nested : Nested rules 0 e ts
     pub inside : e ≤ length line
 
-  pub reading-nests : 0 < rules → {e : ℕ} {n : Amount} {ts : Trees} → Reads g line (ok e ts) n → Whole e ts
+  pub reading-nests : 0 < rules → {e : ℕ} {n : Amount} {ts : Trees} → Reads g line live (ok e ts) n → Whole e ts
   unfolding look
   reading-nests h d =
       record {

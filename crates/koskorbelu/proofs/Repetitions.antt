@@ -1,5 +1,6 @@
 -- 02, W-209: "in accepted tables a repetition's child never matches without consuming". So rep.3 is used in no reading of one, and 01's corner of the repetition is 003's.
 use mathlib.Core.Path.{_≡_}
+use mathlib.Core.Bool.{Bool}
 use mathlib.Core.List.{List}
 use Prim.Native.Nat.{ℕ, _<_}
 use native.Mathlib.Omega.{arith}
@@ -23,13 +24,16 @@ module _ (t : List ℕ) (w : WellFormed t) (line : List ℕ) where
   has-rule : 0 < length (grammarOf t .roots)
   has-rule = omega (arith, rule-count t, w .laid .some-rule)
 
-  -- By the plain rules, by the bounded rules whatever is live, and in every visit of the limited reading, with answers kept or not.
-  pub repetition-consumes : (i a : ℕ) → i < nodesOf t → node (grammarOf t) i ≡ rep a → Consumes (grammarOf t) line a
-  repetition-consumes i a h e = consumes (grammarOf t) line consuming i a (rw (node-count t) h) e
+  -- Whichever rules become live.
+  module _ (which : ℕ → Bool) where
+    -- By the plain rules, by the bounded rules whatever is live, and in every visit of the limited reading, with answers kept or not.
+    pub repetition-consumes : (i a : ℕ) → i < nodesOf t → node (grammarOf t) i ≡ rep a → Consumes (grammarOf t) line which a
+    repetition-consumes i a h e = consumes (grammarOf t) line which consuming i a (rw (node-count t) h) e
 
-  -- No reading uses rep.3, by the bounded rules or by the plain ones.
-  pub no-rep3 : {r : Answer} {n : Amount} (h : Reads (grammarOf t) line r n) → WithoutRep3 (grammarOf t) line (h .rules)
-  no-rep3 h = reads-without-rep3 (grammarOf t) line is-closed consuming has-rule h
+    -- No reading uses rep.3, by the bounded rules.
+    pub no-rep3 : {r : Answer} {n : Amount} (h : Reads (grammarOf t) line which r n) → WithoutRep3 (grammarOf t) line which (h .rules)
+    no-rep3 h = reads-without-rep3 (grammarOf t) line which is-closed consuming has-rule h
 
+  -- Nor by the plain ones.
   pub plain-no-rep3 : {r : Answer} (d : Plain (grammarOf t) line (rule 0) 0 r) → PlainWithoutRep3 (grammarOf t) line d
   plain-no-rep3 d = plain-reads-without-rep3 (grammarOf t) line is-closed consuming has-rule d

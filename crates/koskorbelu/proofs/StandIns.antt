@@ -7,7 +7,7 @@ use native.Mathlib.Omega.{arith}
 use Rattle.meaning.specs.Rules.{Amount}
 use Rattle.meaning.specs.Report.{Free}
 use Rattle.meaning.specs.Decide.{isFree}
-use Rattle.meaning.specs.Reading.{State, Run, readBy}
+use Rattle.meaning.specs.Reading.{State, Run, keeps, readBy}
 use Rattle.meaning.proofs.Decided.{free-iff}
 use Rattle.sheet.specs.Given.{WellFormed}
 use Rattle.layout.proofs.Tests.{failed-iff}
@@ -35,7 +35,7 @@ module _ (c : Call) (w : WellFormed (c .table)) {o p : Outcome} (h : Demand2 c o
           let x = h .kept f (visits p) in
           let y = k .kept f (visits o) in
           let n : visits o + visits p ≡ visits p + visits o = omega arith in
-          let d : Run.done (h .answer) (x .0) ≡ Run.done (k .answer) (y .0) = sym (x .2) ∙ ap (readBy (grammar c) (c .line) true) n ∙ y .2 in
+          let d : Run.done (h .answer) (x .0) ≡ Run.done (k .answer) (y .0) = sym (x .2) ∙ ap (readBy (grammar c) (c .line) keeps) n ∙ y .2 in
           let z : x .0 ≡ y .0 = cc in
           sym (y .1) ∙ ap (λ (s : State). s .left) (sym z) ∙ x .1
       by false e =

@@ -9,7 +9,7 @@ use mathlib.Core.Option.{Option, none, some}
 use lib.Dec.{ltb, eqb}
 use Rattle.meaning.specs.Grammar.{Node, empty, range, rule, seq, choice, not, rep, Grammar, node, rootOf, Trees, Answer, fail, ok, Note, noted, look}
 use Rattle.meaning.specs.Reading.{State, starting, spent as leaving, asked, Run, Visit, after, joined, second, otherwise, denied, repeatFrom, repeated, wrapped, apply, longer, attempted, grow, firstAttempt, useLive, keep}
-use Rattle.meaning.specs.Reading.{counted, useRule, recall, visited, visit, readBy}
+use Rattle.meaning.specs.Reading.{counted, Way, keeps, grows, becomesLive, useBy, useRule, recall, visited, visit, readBy}
 
 -- F came from s to t in so many visits; with any number to spare it makes as many and ends alike, with that number left.
 pub record Made (F : State → Run) (least : ℕ) (s t : State) (end : State → Run) (spare : ℕ) : Type 0 where
@@ -237,13 +237,16 @@ too-deep x s = by (s .left)
 
 module _ (g : Grammar) (line : List ℕ) where
   module _ (v : List Note → Visit) (hv : (l : List Note) (i x : ℕ) → Steady 1 (v l i x)) where
-    of-use : (free : Bool) (l : List Note) (a x : ℕ) → Steady 0 (useRule g line free v l a x)
-    unfolding useRule
-    of-use true l a x = then (v l (rootOf g a) x) (wrapped a x) 0 (weaker (v l (rootOf g a) x) (hv l (rootOf g a) x)) (of-wrapped a x)
-    of-use false l a x = of-live (λ r. v (noted a x r l) (rootOf g a) x) x (λ r. hv (noted a x r l) (rootOf g a) x) a (look l a x)
+    of-by : (b : Bool) (l : List Note) (a x : ℕ) → Steady 0 (useBy g line b v l a x)
+    unfolding useBy
+    of-by false l a x = then (v l (rootOf g a) x) (wrapped a x) 0 (weaker (v l (rootOf g a) x) (hv l (rootOf g a) x)) (of-wrapped a x)
+    of-by true l a x = of-live (λ r. v (noted a x r l) (rootOf g a) x) x (λ r. hv (noted a x r l) (rootOf g a) x) a (look l a x)
 
-    of-node : (free : Bool) (l : List Note) (i x : ℕ) → Steady 0 (λ s. apply line (v l) (useRule g line free v l) i x s (node g i))
-    of-node free l i x = of-apply line (v l) (useRule g line free v l) (λ j y. weaker (v l j y) (hv l j y)) (of-use free l) i x (node g i)
+    of-use : (way : Way) (l : List Note) (a x : ℕ) → Steady 0 (useRule g line way v l a x)
+    of-use way l a = of-by (becomesLive way a) l a
+
+    of-node : (way : Way) (l : List Note) (i x : ℕ) → Steady 0 (λ s. apply line (v l) (useRule g line way v l) i x s (node g i))
+    of-node way l i x = of-apply line (v l) (useRule g line way v l) (λ j y. weaker (v l j y) (hv l j y)) (of-use way l) i x (node g i)
 
     of-keep : (i x : ℕ) (r : Answer) → Steady 0 (keep i x r)
     unfolding keep
@@ -252,55 +255,55 @@ module _ (g : Grammar) (line : List ℕ) where
     of-recall : (l : List Note) (i x : ℕ) (o : Option Answer) → Steady 0 (λ s. recall g line v l i x s o)
     unfolding recall
     of-recall l i x (some r) = at-once r
-    of-recall l i x none = then (λ s. apply line (v l) (useRule g line true v l) i x s (node g i)) (keep i x) 0 (of-node true l i x) (of-keep i x)
+    of-recall l i x none = then (λ s. apply line (v l) (useRule g line keeps v l) i x s (node g i)) (keep i x) 0 (of-node keeps l i x) (of-keep i x)
 
-    of-visited : (free : Bool) (l : List Note) (i x : ℕ) → Steady 0 (visited g line free v l i x)
+    of-visited : (way : Way) (l : List Note) (i x : ℕ) → Steady 0 (visited g line way v l i x)
     unfolding visited
-    of-visited true l i x s = by (recall g line v l i x s (look (s .kept) i x)) (of-recall l i x (look (s .kept) i x) s)
+    of-visited keeps l i x s = by (recall g line v l i x s (look (s .kept) i x)) (of-recall l i x (look (s .kept) i x) s)
       where
-        by : (m : Run) → Fact (λ t. recall g line v l i x t (look (s .kept) i x)) 0 s m → Fact (visited g line true v l i x) 0 s m
+        by : (m : Run) → Fact (λ t. recall g line v l i x t (look (s .kept) i x)) 0 s m → Fact (visited g line keeps v l i x) 0 s m
         by (Run.effort p t) h = tt
         by (Run.deep p t) h = record { count = h .count; some = h .some; spent = h .spent; always = h .always }
         by (Run.done r t) h = record { count = h .count; some = h .some; spent = h .spent; always = h .always }
-    of-visited false l i x s = of-node false l i x s
+    of-visited (grows live) l i x s = of-node (grows live) l i x s
 
-  of-visit : (free : Bool) (d : ℕ) (l : List Note) (i x : ℕ) → Steady 1 (visit g line free d l i x)
+  of-visit : (way : Way) (d : ℕ) (l : List Note) (i x : ℕ) → Steady 1 (visit g line way d l i x)
   unfolding visit
-  of-visit free zero l i x = too-deep x
-  of-visit free (suc d) l i x = of-counted x (visited g line free (visit g line free d) l i x) (of-visited (visit g line free d) (of-visit free d) free l i x)
+  of-visit way zero l i x = too-deep x
+  of-visit way (suc d) l i x = of-counted x (visited g line way (visit g line way d) l i x) (of-visited (visit g line way d) (of-visit way d) way l i x)
 
   -- ---- The reading.
-  module _ (free : Bool) where
+  module _ (way : Way) where
     -- In n visits it ends so, with f as the furthest position, whatever number is to spare.
     abbrev pub Always : (n f spare : ℕ) → (State → Run) → Type 0
-    Always n f spare end = (j : ℕ) → spare ≤ j → (u : State) × (u .left ≡ j) × (u .furthest ≡ f) × (readBy g line free (n + j) ≡ end u)
+    Always n f spare end = (j : ℕ) → spare ≤ j → (u : State) × (u .left ≡ j) × (u .furthest ≡ f) × (readBy g line way (n + j) ≡ end u)
 
-    always : {a spare : ℕ} {t : State} {end : State → Run} → Made (useRule g line free (visit g line free 512) [] 0 0) 0 (starting a) t end spare
+    always : {a spare : ℕ} {t : State} {end : State → Run} → Made (useRule g line way (visit g line way 512) [] 0 0) 0 (starting a) t end spare
         → (n : ℕ) × (a ≡ n + t .left) × Always n (t .furthest) spare end
     unfolding readBy
     always {t = t} h = (h .count, h .spent, λ j l. (leaving j t, refl, refl, h .always j l))
 
-    fact : (a : ℕ) (m : Run) → readBy g line free a ≡ m → Fact (useRule g line free (visit g line free 512) [] 0 0) 0 (starting a) m
+    fact : (a : ℕ) (m : Run) → readBy g line way a ≡ m → Fact (useRule g line way (visit g line way 512) [] 0 0) 0 (starting a) m
     unfolding readBy
-    fact a m e = subst (Fact (useRule g line free (visit g line free 512) [] 0 0) 0 (starting a)) e (of-use (visit g line free 512) (of-visit free 512) free [] 0 0 (starting a))
+    fact a m e = subst (Fact (useRule g line way (visit g line way 512) [] 0 0) 0 (starting a)) e (of-use (visit g line way 512) (of-visit way 512) way [] 0 0 (starting a))
 
-    pub done-always : (a : ℕ) (r : Answer) (t : State) → readBy g line free a ≡ Run.done r t → (n : ℕ) × (a ≡ n + t .left) × Always n (t .furthest) 0 (Run.done r)
+    pub done-always : (a : ℕ) (r : Answer) (t : State) → readBy g line way a ≡ Run.done r t → (n : ℕ) × (a ≡ n + t .left) × Always n (t .furthest) 0 (Run.done r)
     done-always a r t e = always (fact a (Run.done r t) e)
 
-    pub deep-always : (a p : ℕ) (t : State) → readBy g line free a ≡ Run.deep p t → (n : ℕ) × (a ≡ n + t .left) × Always n (t .furthest) 1 (Run.deep p)
+    pub deep-always : (a p : ℕ) (t : State) → readBy g line way a ≡ Run.deep p t → (n : ℕ) × (a ≡ n + t .left) × Always n (t .furthest) 1 (Run.deep p)
     deep-always a p t e = always (fact a (Run.deep p t) e)
 
-    pub larger : (a n f spare : ℕ) (end : State → Run) → Always n f spare end → n + spare ≤ a → (u : State) × (u .left ≡ a - n) × (u .furthest ≡ f) × (readBy g line free a ≡ end u)
+    pub larger : (a n f spare : ℕ) (end : State → Run) → Always n f spare end → n + spare ≤ a → (u : State) × (u .left ≡ a - n) × (u .furthest ≡ f) × (readBy g line way a ≡ end u)
     larger a n f spare end h l =
         let e : a ≡ n + (a - n) = omega arith in
         let k = h (a - n) (omega arith) in
-        (k .0, k .1, k .2, ap (readBy g line free) e ∙ k .3)
+        (k .0, k .1, k .2, ap (readBy g line way) e ∙ k .3)
 
     -- With fewer visits than it made, a reading that was done is refused for effort.
-    pub fewer : (a b : ℕ) (r : Answer) (t : State) → readBy g line free a ≡ Run.done r t → b + t .left < a → (p : ℕ) × (u : State) × (readBy g line free b ≡ Run.effort p u)
-    fewer a b r t e less = by (readBy g line free b) refl
+    pub fewer : (a b : ℕ) (r : Answer) (t : State) → readBy g line way a ≡ Run.done r t → b + t .left < a → (p : ℕ) × (u : State) × (readBy g line way b ≡ Run.effort p u)
+    fewer a b r t e less = by (readBy g line way b) refl
       where
-        by : (m : Run) → readBy g line free b ≡ m → (p : ℕ) × (u : State) × (m ≡ Run.effort p u)
+        by : (m : Run) → readBy g line way b ≡ m → (p : ℕ) × (u : State) × (m ≡ Run.effort p u)
         by (Run.effort p u) q = (p, u, refl)
         by (Run.deep p u) q =
             let h = deep-always b p u q in

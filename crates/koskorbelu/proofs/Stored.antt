@@ -7,7 +7,8 @@ use native.Mathlib.Omega.{arith}
 use lib.ListN.{length, take}
 use lib.Seq.{take-at}
 use Rattle.meaning.specs.Grammar.{Trees, no-trees, Answer, ok}
-use Rattle.meaning.specs.Rules.{Amount, Reads}
+use Rattle.meaning.specs.Rules.{Amount}
+use Rattle.meaning.specs.Decide.{leftRecursive}
 use Rattle.layout.specs.Table.{rulesOf}
 use Rattle.layout.specs.Layout.{READ}
 use Rattle.layout.proofs.Laying.{rule-count}
@@ -20,7 +21,7 @@ use Rattle.stored.proofs.Nested.{nested-join, nested-fits}
 use Rattle.stored.proofs.Written.{written}
 use Rattle.stored.proofs.ReadBack as R
 use Rattle.reader.specs.Answer.{positionWidth, Outcome}
-use Rattle.koskorbelu.specs.Demands.{Call, back, code, grammar, Ended, fails, rest, records, room, reads, Taken, Answers, Demand2}
+use Rattle.koskorbelu.specs.Demands.{Call, back, code, grammar, Ended, fails, rest, records, room, reads, Taken, Answers, Published, Demand2}
 use Rattle.koskorbelu.proofs.Demand1.{given}
 use Rattle.koskorbelu.proofs.Demand2.{is-closed, has-rule, was-taken, demand-2}
 use Rattle.koskorbelu.proofs.Nests.{Whole, reading-nests}
@@ -57,11 +58,11 @@ module _ (c : Call) where
     the-tree : Tree (back c) (by-rules .answer)
     the-tree = of-read (by-rules .said) e
 
-    reading : Reads (grammar c) (c .line) (ok (back c .reading .matched) (the-tree .ts)) (by-rules .amount)
-    reading = subst (λ (r : Answer). Reads (grammar c) (c .line) r (by-rules .amount)) (the-tree .answer) (by-rules .rules)
+    reading : Published c (ok (back c .reading .matched) (the-tree .ts)) (by-rules .amount)
+    reading = subst (λ (r : Answer). Published c r (by-rules .amount)) (the-tree .answer) (by-rules .rules)
 
-    whole : Whole (grammar c) (c .line) (is-closed c (taken .sheet)) (back c .reading .matched) (the-tree .ts)
-    whole = reading-nests (grammar c) (c .line) (is-closed c (taken .sheet)) (has-rule c (taken .sheet)) reading
+    whole : Whole (grammar c) (c .line) (leftRecursive (grammar c)) (is-closed c (taken .sheet)) (back c .reading .matched) (the-tree .ts)
+    whole = reading-nests (grammar c) (c .line) (leftRecursive (grammar c)) (is-closed c (taken .sheet)) (has-rule c (taken .sheet)) reading
 
     nested : Nested (rulesOf (c .table)) 0 (length (c .line)) (the-tree .ts)
     unfolding Nested
@@ -84,7 +85,7 @@ module _ (c : Call) where
         (written positionWidth (rulesOf (c .table)) (length (c .line)) (the-tree .ts) (omega arith) few-rules short-line few-bytes (whole .single) nested)
 
     -- The tree in the room.
-    pub read-back : (n : Amount) × Reads (grammar c) (c .line) (ok (back c .reading .matched) (treeOf positionWidth (front (back c)))) n
+    pub read-back : (n : Amount) × Published c (ok (back c .reading .matched) (treeOf positionWidth (front (back c)))) n
     read-back =
         let fits = nested-fits positionWidth (rulesOf (c .table)) 0 (length (c .line)) (the-tree .ts) few-rules short-line (omega (arith, the-tree .few)) nested in
         let t : treeOf positionWidth (front (back c)) ≡ the-tree .ts = ap (treeOf positionWidth) (the-tree .bytes) ∙ R.read-back positionWidth (the-tree .ts) few-bytes (whole .single) fits in

@@ -1,4 +1,4 @@
--- 01's worked lines that are marked P, two of a sheet with a rule that nobody uses, and the others of the program's example: a single table, under one claim, by computation. The claim is of every working room and every room that is large enough.
+-- 01's worked lines that are marked P, with the visits of 02's W-205, two of a sheet with a rule that nobody uses, and the others of the program's example: a single table, under one claim, by computation. The claim is of every working room and every room that is large enough.
 use mathlib.Core.Path.{_≡_, refl, ap, subst, _∙_}
 use mathlib.Core.Bool.{Bool, true, false, _&&_, cond, and-eq-true-iff}
 use mathlib.Core.List.{List, [], _∷_, _++_, map, head-eq-of-cons-eq, tail-eq-of-cons-eq}
@@ -8,8 +8,8 @@ use borrow.Author.Tests.{leb-true, le-ltb}
 use lib.Dec.{leb, ltb}
 use lib.ListN.{length, drop}
 use Rattle.meaning.specs.Grammar.{Trees, fail, ok, wrap, fits, look}
-use Rattle.meaning.specs.Decide.{emptyNodes, ledTo, ledRules, isFree}
-use Rattle.meaning.specs.Reading.{made, Run, after, byte, joined, second, otherwise, repeatFrom, repeated, wrapped, apply, longer, attempted, grow, firstAttempt, useLive, keep, counted, useRule}
+use Rattle.meaning.specs.Decide.{emptyNodes, ledTo, ledRules, leftRecursive, isFree}
+use Rattle.meaning.specs.Reading.{made, Run, after, byte, joined, second, otherwise, repeatFrom, repeated, wrapped, apply, longer, attempted, grow, firstAttempt, useLive, keep, counted, useBy}
 use Rattle.meaning.specs.Reading.{recall, visited, visit, readBy, read}
 use Rattle.meaning.specs.Reading as reading
 use Rattle.meaning.specs.Report.{bound}
@@ -93,16 +93,16 @@ commaLine = case true tableB (49 ∷ 44 ∷ 53 ∷ []) 2500 (numbers READ 0 3 8 
 -- The numbers are code, place, matched, visits, records, furthest.
 unfoldable pub worked : List Line
 worked =
-    case true tableA (55 ∷ 43 ∷ 50 ∷ []) 2500 (numbers READ 0 3 22 4 3)
+    case true tableA (55 ∷ 43 ∷ 50 ∷ []) 2500 (numbers READ 0 3 19 4 3)
     (1 ∷ 0 ∷ 25 ∷ 0 ∷ 4 ∷ 1 ∷ 0 ∷ 1 ∷ 0 ∷ 0 ∷ 0 ∷ 0 ∷ 1 ∷ 0 ∷ 1 ∷ 1 ∷ 2 ∷ 3 ∷ 0 ∷ 0 ∷ 0 ∷ 0 ∷ 3 ∷ 0 ∷ 2 ∷ [])
-    ∷ case true tableA (55 ∷ 43 ∷ 50 ∷ []) 22 (numbers READ 0 3 22 4 3)
+    ∷ case true tableA (55 ∷ 43 ∷ 50 ∷ []) 19 (numbers READ 0 3 19 4 3)
     (1 ∷ 0 ∷ 25 ∷ 0 ∷ 4 ∷ 1 ∷ 0 ∷ 1 ∷ 0 ∷ 0 ∷ 0 ∷ 0 ∷ 1 ∷ 0 ∷ 1 ∷ 1 ∷ 2 ∷ 3 ∷ 0 ∷ 0 ∷ 0 ∷ 0 ∷ 3 ∷ 0 ∷ 2 ∷ [])
-    ∷ case true tableA (55 ∷ 43 ∷ 50 ∷ []) 21 (numbers EFFORT 0 0 21 0 3) []
-    ∷ case true tableA (55 ∷ []) 2500 (numbers READ 0 1 14 2 1) (1 ∷ 0 ∷ 15 ∷ 0 ∷ 2 ∷ 1 ∷ 0 ∷ 1 ∷ 0 ∷ 0 ∷ 0 ∷ 0 ∷ 1 ∷ 0 ∷ 1 ∷ [])
+    ∷ case true tableA (55 ∷ 43 ∷ 50 ∷ []) 18 (numbers EFFORT 0 0 18 0 3) []
+    ∷ case true tableA (55 ∷ []) 2500 (numbers READ 0 1 12 2 1) (1 ∷ 0 ∷ 15 ∷ 0 ∷ 2 ∷ 1 ∷ 0 ∷ 1 ∷ 0 ∷ 0 ∷ 0 ∷ 0 ∷ 1 ∷ 0 ∷ 1 ∷ [])
     ∷ case true tableA [] 2500 (numbers FAIL 0 0 5 0 0) []
     ∷ case true tableA (43 ∷ []) 2500 (numbers FAIL 0 0 5 0 0) []
-    ∷ case false tableA (55 ∷ 43 ∷ []) 2500 (numbers READ 0 1 16 2 2) (1 ∷ 0 ∷ 15 ∷ 0 ∷ 2 ∷ 1 ∷ 0 ∷ 1 ∷ 0 ∷ 0 ∷ 0 ∷ 0 ∷ 1 ∷ 0 ∷ 1 ∷ [])
-    ∷ case true tableA (55 ∷ 43 ∷ []) 2500 (numbers REST 1 1 16 0 2) []
+    ∷ case false tableA (55 ∷ 43 ∷ []) 2500 (numbers READ 0 1 14 2 2) (1 ∷ 0 ∷ 15 ∷ 0 ∷ 2 ∷ 1 ∷ 0 ∷ 1 ∷ 0 ∷ 0 ∷ 0 ∷ 0 ∷ 1 ∷ 0 ∷ 1 ∷ [])
+    ∷ case true tableA (55 ∷ 43 ∷ []) 2500 (numbers REST 1 1 14 0 2) []
     ∷ commaLine
     ∷ case true tableB (49 ∷ []) 2500 (numbers READ 0 1 7 2 1) (1 ∷ 0 ∷ 15 ∷ 0 ∷ 2 ∷ 1 ∷ 0 ∷ 1 ∷ 0 ∷ 0 ∷ 0 ∷ 0 ∷ 1 ∷ 0 ∷ 1 ∷ [])
     ∷ case true tableB (49 ∷ 46 ∷ 53 ∷ []) 2500 (numbers REST 1 1 7 0 1) []
@@ -192,7 +192,7 @@ all-hold (l ∷ ls) h = (holds l (head-eq-of-cons-eq h), all-hold ls (tail-eq-of
 
 all-computed : map computed worked ≡ map wanted worked
 unfolding worked roomy matched wrap fits look after byte joined second otherwise reading.denied repeatFrom repeated wrapped apply longer attempted grow firstAttempt useLive keep
-    counted useRule recall visited visit readBy read emptyNodes ledTo ledRules isFree checkOf loopFault layoutOf firstFault rootFault nodeFault faultOf fieldsFit lengthOf
+    counted useBy recall visited visit readBy read emptyNodes ledTo ledRules leftRecursive isFree checkOf loopFault layoutOf firstFault rootFault nodeFault faultOf fieldsFit lengthOf
     nodesOf rulesOf rootOf formula kindOf fieldOf nodeOf grammarOf recordsOf numberOf inBytes recordBytes treesBytes headBytes storedOf
 all-computed = refl
 

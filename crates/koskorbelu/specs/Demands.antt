@@ -6,9 +6,10 @@ use mathlib.Core.List.{List, _++_}
 use Prim.Native.Nat.{ℕ, _+_, _<_, _≤_}
 use lib.ListN.{length, drop}
 use Rattle.meaning.specs.Grammar.{Grammar, rule, Trees, Answer, fail, ok}
-use Rattle.meaning.specs.Rules.{Plain, furthestOf, Amount, Reads}
+use Rattle.meaning.specs.Rules.{Plain, furthestOf, Amount, everyRule, Reads}
 use Rattle.meaning.specs.Report.{Free, bound}
-use Rattle.meaning.specs.Reading.{State, made, Run, readBy, read}
+use Rattle.meaning.specs.Decide.{leftRecursive}
+use Rattle.meaning.specs.Reading.{State, made, Run, keeps, readBy, read}
 use Rattle.layout.specs.Table.{nodesOf, grammarOf}
 use Rattle.layout.specs.Layout.{READ}
 use Rattle.sheet.specs.Check.{LOOP}
@@ -114,14 +115,21 @@ pub data Answers : ℕ → Type 0 where
   records : Answers RECORDS
   room : Answers ROOM
 
+-- 02, W-205: the reading by the published rules, in which the left-recursive rules become live and no others.
+abbrev pub Published : Call → Answer → Amount → Type 0
+Published c = Reads (grammar c) (c .line) (leftRecursive (grammar c))
+
 -- Demand 2, of an outcome with such a code: "Unless 01 turns the call away before the line is read, or refuses it for effort or depth, match and tree are those of the
 -- published rules for bounded left recursion (document 003), and the number of visits is the one 01 defines over them."
 pub record Demand2 (c : Call) (o : Outcome) : Type 0 where
   -- What the rules answer for rule 0 at position 0 with nothing live, what that amounts to, and that they answer nothing else.
   pub answer : Answer
   pub amount : Amount
-  pub rules : Reads (grammar c) (c .line) answer amount
-  pub only : (r : Answer) (n : Amount) → Reads (grammar c) (c .line) r n → (r ≡ answer) × (n ≡ amount)
+  pub rules : Published c answer amount
+  pub only : (r : Answer) (n : Amount) → Published c r n → (r ≡ answer) × (n ≡ amount)
+  -- 02, W-205: "Matches and trees are to be proved the same as under document 01's rules", by which every rule becomes live; these answer nothing else either.
+  pub every : (n : Amount) × Reads (grammar c) (c .line) everyRule answer n
+  pub every-only : (r : Answer) (n : Amount) → Reads (grammar c) (c .line) everyRule r n → r ≡ answer
   -- The outcome says so.
   pub said : Ended c (visits o) (furthest o) answer o
   -- 02, W-203: "the largest position at which a range node was visited" in that derivation, whatever was kept.
@@ -131,7 +139,7 @@ pub record Demand2 (c : Call) (o : Outcome) : Type 0 where
   -- 01, "All others.": every visit of that derivation.
   pub others : ¬ Free (grammar c) → visits o ≡ amount .visits
   -- 01, "Free grammars.": the visits of the reading that keeps answers, whatever number is to spare.
-  pub kept : Free (grammar c) → (spare : ℕ) → (s : State) × (s .left ≡ spare) × (readBy (grammar c) (c .line) true (visits o + spare) ≡ Run.done answer s)
+  pub kept : Free (grammar c) → (spare : ℕ) → (s : State) × (s .left ≡ spare) × (readBy (grammar c) (c .line) keeps (visits o + spare) ≡ Run.done answer s)
 
 -- Demand 3, of a call that is not turned away, with such a sheet and allowance: "For a grammar that 01's report calls free of left recursion, with N nodes, a line of L bytes,
 -- an allowance of at least 2 x N x (L + 1) + 1 and the working room 01 names: never refused for effort, visits at most 2 x N x (L + 1) + 1, and unless too deep, match, failure

@@ -8,7 +8,8 @@
 // What is proved of it:
 //   proofs/Demand1      every call is answered by exactly one row of 01's table of codes, with that row's numbers and buffers
 //   proofs/Rows         the same row by row: each code comes back exactly when 01 says
-//   proofs/Demand2      match, tree, visits and furthest are those of document 003's rules; no call makes more visits than are allowed
+//   proofs/Demand2      match, tree, visits and furthest are those of document 003's rules, match and tree also where every rule becomes live; no call makes
+//                       more visits than are allowed
 //   proofs/Demand3      free sheets: the ceiling on visits, never EFFORT with that allowance, and the plain rules' answer
 //   proofs/StandIns     one outcome alone meets demand 2
 //   proofs/Allowance    a line is read alike with every allowance from its visits on, and refused for effort with every smaller one

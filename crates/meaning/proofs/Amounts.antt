@@ -1,13 +1,9 @@
 -- What a reading spends and reaches on its way from one state to another, by what a derivation amounts to.
 use mathlib.Core.Path.{_≡_, refl}
-use Prim.Native.Nat.{ℕ, suc, _+_, max}
+use Prim.Native.Nat.{ℕ, suc, _+_, _≤_, max}
 use native.Mathlib.Omega.{arith}
-use Rattle.meaning.specs.Reading.{State, spent, asked, made}
+use Rattle.meaning.specs.Reading.{State, starting, spent, asked, made}
 use Rattle.meaning.specs.Rules.{Amount, nothing, asking, _⊕_, visiting}
-
--- What a reading amounts to that ended with the state t, with so many visits allowed.
-abbrev pub amounts : ℕ → State → Amount
-amounts allowance t = record { visits = made allowance t; furthest = t .furthest }
 
 -- The visits of n were made between s and t, and the furthest position rose by n's.
 pub record Spends (n : Amount) (s t : State) : Type 0 where
@@ -32,3 +28,12 @@ spends-both h k =
 -- The visit itself is one more.
 pub spends-visit : {n : Amount} {l : ℕ} {s t : State} → s .left ≡ suc l → Spends n (spent l s) t → Spends (visiting n) s t
 spends-visit e h = let a = h .left in record { left = omega arith; furthest = h .furthest }
+
+-- What a whole reading amounts to that ended with the state t, with so many visits allowed: those made, as far as it got, and never more open than 512.
+pub record Amounts (allowance : ℕ) (n : Amount) (t : State) : Type 0 where
+  pub visits : n .visits ≡ made allowance t
+  pub furthest : n .furthest ≡ t .furthest
+  pub depth : n .depth ≤ 512
+
+pub amounts : {allowance : ℕ} {n : Amount} {t : State} → Spends n (starting allowance) t → n .depth ≤ 512 → Amounts allowance n t
+amounts h d = let v = h .left in let f = h .furthest in record { visits = omega arith; furthest = omega arith; depth = d }

@@ -1,4 +1,5 @@
--- Document 003's Lemma 2: in a closed grammar the bounded rules answer on every line, whatever is live.
+-- Document 003's Lemma 2: in a closed grammar the bounded rules answer on every line, whatever is live, where every rule may become live. Where only those that need
+-- it do, it follows from this (Needed).
 use mathlib.Core.Path.{_≡_, refl, sym, subst, _∙_}
 use mathlib.Core.Logic.{_≢_, _⊎_, inl, inr}
 use Prim.Native.Nat.{ℕ, zero, suc, _+_, _<_, _≤_}
@@ -10,7 +11,7 @@ use lib.Dec.{ltb, eqb}
 use borrow.Author.Tests.{ltb-true, ltb-false, eqb-true, eqb-false}
 use native.Mathlib.Omega.{arith}
 use Rattle.meaning.specs.Grammar.{Node, empty, range, rule, seq, choice, not, rep, Grammar, node, rootOf, root, Below, Closed, Trees, no-trees, _⋈_, Answer, fail, ok, wrap, fits, Note, noted, look}
-use Rattle.meaning.specs.Rules.{Goal, at, inc, Amount, nothing, asking, _⊕_, visiting, Bounded, Reads}
+use Rattle.meaning.specs.Rules.{Goal, at, inc, Amount, nothing, asking, _⊕_, visiting, Bounded, everyRule, Reads}
 use Rattle.meaning.specs.Rules as R
 use Rattle.meaning.proofs.Answers.{found}
 use Rattle.meaning.proofs.Conserve.{as-reading}
@@ -27,7 +28,7 @@ module _ (g : Grammar) (line : List ℕ) where
   pub record Answers (l : List Note) (p : Goal) (x : ℕ) : Type 0 where
     pub answer : Answer
     pub amount : Amount
-    pub rules : Bounded g line l p x answer amount
+    pub rules : Bounded g line everyRule l p x answer amount
 
   -- The rules of s are live at x.
   abbrev LiveAt : List Note → ℕ → List ℕ → Type 0
@@ -54,7 +55,7 @@ module _ (g : Grammar) (line : List ℕ) where
       (past : (y : ℕ) → x < y → y ≤ length line → (l : List Note) → Held g line l → (i : ℕ) → i < length (g .nodes) → Answers l (at (node g i)) y) where
     module _ (l : List Note) (held : Held g line l) where
       -- From where a match ended the next visit starts: at x, or further on.
-      next : (i y : ℕ) {p : Node} {ts : Trees} {n : Amount} → Bounded g line l (at p) x (ok y ts) n → i < length (g .nodes) → Answers l (at (node g i)) x → (t : Bool) → eqb x y ≡ t
+      next : (i y : ℕ) {p : Node} {ts : Trees} {n : Amount} → Bounded g line everyRule l (at p) x (ok y ts) n → i < length (g .nodes) → Answers l (at (node g i)) x → (t : Bool) → eqb x y ≡ t
           → Answers l (at (node g i)) y
       next i y h li k true e = subst (λ z. Answers l (at (node g i)) z) (eqb-true x y e) k
       next i y h li k false e =
@@ -63,30 +64,30 @@ module _ (g : Grammar) (line : List ℕ) where
           let f = s .forward in
           past y (omega arith) (s .inside inside) l held i li
 
-      seq-two : (a b y : ℕ) (ts : Trees) (n : Amount) → Bounded g line l (at (node g a)) x (ok y ts) n → (r : Answer) (m : Amount) → Bounded g line l (at (node g b)) y r m → Answers l (at (seq a b)) x
+      seq-two : (a b y : ℕ) (ts : Trees) (n : Amount) → Bounded g line everyRule l (at (node g a)) x (ok y ts) n → (r : Answer) (m : Amount) → Bounded g line everyRule l (at (node g b)) y r m → Answers l (at (seq a b)) x
       seq-two a b y ts n h fail m k = record { answer = fail; amount = visiting (n ⊕ m); rules = R.con2 h k }
       seq-two a b y ts n h (ok z us) m k = record { answer = ok z (ts ⋈ us); amount = visiting (n ⊕ m); rules = R.con1 h k }
 
-      seq-one : (a b : ℕ) → b < length (g .nodes) → Answers l (at (node g b)) x → (r : Answer) (n : Amount) → Bounded g line l (at (node g a)) x r n → Answers l (at (seq a b)) x
+      seq-one : (a b : ℕ) → b < length (g .nodes) → Answers l (at (node g b)) x → (r : Answer) (n : Amount) → Bounded g line everyRule l (at (node g a)) x r n → Answers l (at (seq a b)) x
       seq-one a b lb k fail n h = record { answer = fail; amount = visiting n; rules = R.con3 h }
       seq-one a b lb k (ok y ts) n h = let j = next b y h lb k (eqb x y) refl in seq-two a b y ts n h (j .answer) (j .amount) (j .rules)
 
-      choice-one : (a b : ℕ) → Answers l (at (node g b)) x → (r : Answer) (n : Amount) → Bounded g line l (at (node g a)) x r n → Answers l (at (choice a b)) x
+      choice-one : (a b : ℕ) → Answers l (at (node g b)) x → (r : Answer) (n : Amount) → Bounded g line everyRule l (at (node g a)) x r n → Answers l (at (choice a b)) x
       choice-one a b k fail n h = record { answer = k .answer; amount = visiting (n ⊕ k .amount); rules = R.ord2 h (k .rules) }
       choice-one a b k (ok y ts) n h = record { answer = ok y ts; amount = visiting n; rules = R.ord1 h }
 
-      not-one : (a : ℕ) (r : Answer) (n : Amount) → Bounded g line l (at (node g a)) x r n → Answers l (at (not a)) x
+      not-one : (a : ℕ) (r : Answer) (n : Amount) → Bounded g line everyRule l (at (node g a)) x r n → Answers l (at (not a)) x
       not-one a fail n h = record { answer = ok x no-trees; amount = visiting n; rules = R.not1 h }
       not-one a (ok y ts) n h = record { answer = fail; amount = visiting n; rules = R.not2 h }
 
-      rep-two : (a y : ℕ) (ts : Trees) (n : Amount) → x ≢ y → Bounded g line l (at (node g a)) x (ok y ts) n → (r : Answer) (m : Amount) → Bounded g line l (at (rep a)) y r m → Answers l (at (rep a)) x
-      rep-two a y ts n q h fail m k = rep-matches g line k refl
+      rep-two : (a y : ℕ) (ts : Trees) (n : Amount) → x ≢ y → Bounded g line everyRule l (at (node g a)) x (ok y ts) n → (r : Answer) (m : Amount) → Bounded g line everyRule l (at (rep a)) y r m → Answers l (at (rep a)) x
+      rep-two a y ts n q h fail m k = rep-matches g line everyRule k refl
       rep-two a y ts n q h (ok z us) m k = record { answer = ok z (ts ⋈ us); amount = visiting (n ⊕ m); rules = R.rep2 h q k }
 
-      rep-at : (i a y : ℕ) (ts : Trees) (n : Amount) → i < length (g .nodes) → node g i ≡ rep a → Bounded g line l (at (node g a)) x (ok y ts) n → (t : Bool) → eqb x y ≡ t → Answers l (at (rep a)) x
+      rep-at : (i a y : ℕ) (ts : Trees) (n : Amount) → i < length (g .nodes) → node g i ≡ rep a → Bounded g line everyRule l (at (node g a)) x (ok y ts) n → (t : Bool) → eqb x y ≡ t → Answers l (at (rep a)) x
       rep-at i a y ts n li e h true q =
           let z : y ≡ x = sym (eqb-true x y q) in
-          record { answer = ok x no-trees; amount = visiting n; rules = R.rep3 (subst (λ w. Bounded g line l (at (node g a)) x (ok w ts) n) z h) }
+          record { answer = ok x no-trees; amount = visiting n; rules = R.rep3 (subst (λ w. Bounded g line everyRule l (at (node g a)) x (ok w ts) n) z h) }
       rep-at i a y ts n li e h false q =
           let s = spans g line h held in
           let z : x ≢ y = eqb-false x y q in
@@ -94,7 +95,7 @@ module _ (g : Grammar) (line : List ℕ) where
           let k = subst (λ p. Answers l (at p) y) e (past y (omega arith) (s .inside inside) l held i li) in
           rep-two a y ts n z h (k .answer) (k .amount) (k .rules)
 
-      rep-one : (i a : ℕ) → i < length (g .nodes) → node g i ≡ rep a → (r : Answer) (n : Amount) → Bounded g line l (at (node g a)) x r n → Answers l (at (rep a)) x
+      rep-one : (i a : ℕ) → i < length (g .nodes) → node g i ≡ rep a → (r : Answer) (n : Amount) → Bounded g line everyRule l (at (node g a)) x r n → Answers l (at (rep a)) x
       rep-one i a li e fail n h = record { answer = ok x no-trees; amount = visiting n; rules = R.rep1 h }
       rep-one i a li e (ok y ts) n h = rep-at i a y ts n li e h (eqb x y) refl
 
@@ -120,12 +121,12 @@ module _ (g : Grammar) (line : List ℕ) where
       -- A use of a rule, given every visit of its root: growing ends at the line's end at the latest.
       module _ (a : ℕ) (visits : (q : Answer) → Spanned g line (root g a) x q → Answers (noted a x q l) (at (root g a)) x) where
         grown-by : (e : ℕ) (ts : Trees) → ((e′ : ℕ) (ts′ : Trees) → e < e′ → Span g line (root g a) x e′ → Answers l (inc a e′ ts′) x) → (e′ : ℕ) (n : Amount) (ts′ : Trees)
-            → Bounded g line (noted a x (ok e ts) l) (at (root g a)) x (ok e′ ts′) n → Span g line (root g a) x e′ → (t : Bool) → ltb e e′ ≡ t → Answers l (inc a e ts) x
+            → Bounded g line everyRule (noted a x (ok e ts) l) (at (root g a)) x (ok e′ ts′) n → Span g line (root g a) x e′ → (t : Bool) → ltb e e′ ≡ t → Answers l (inc a e ts) x
         grown-by e ts k e′ n ts′ h s true q = let j = k e′ ts′ (ltb-true e e′ q) s in record { answer = j .answer; amount = n ⊕ j .amount; rules = R.inc1 h (ltb-true e e′ q) (j .rules) }
         grown-by e ts k e′ n ts′ h s false q = record { answer = ok e ts; amount = n; rules = R.inc3 h (ltb-false e e′ q) }
 
         attempt : (e : ℕ) (ts : Trees) → Span g line (root g a) x e → ((e′ : ℕ) (ts′ : Trees) → e < e′ → Span g line (root g a) x e′ → Answers l (inc a e′ ts′) x) → (r : Answer) (n : Amount)
-            → Bounded g line (noted a x (ok e ts) l) (at (root g a)) x r n → Answers l (inc a e ts) x
+            → Bounded g line everyRule (noted a x (ok e ts) l) (at (root g a)) x r n → Answers l (inc a e ts) x
         attempt e ts s k fail n h = record { answer = ok e ts; amount = n; rules = R.inc2 h }
         attempt e ts s k (ok e′ ts′) n h = grown-by e ts k e′ n ts′ h (spans g line h (held-more g line l a x (ok e ts) s held)) (ltb e e′) refl
 
@@ -137,15 +138,15 @@ module _ (g : Grammar) (line : List ℕ) where
             let v = visits (ok e ts) s in
             attempt e ts s (λ e′ ts′ lt s′. grown m e′ ts′ (omega arith) s′) (v .answer) (v .amount) (v .rules)
 
-        first : look l a x ≡ none → (r : Answer) (n : Amount) → Bounded g line (noted a x fail l) (at (root g a)) x r n → Answers l (at (rule a)) x
-        first q fail n h = record { answer = fail; amount = visiting n; rules = R.lvar2 q h }
+        first : look l a x ≡ none → (r : Answer) (n : Amount) → Bounded g line everyRule (noted a x fail l) (at (root g a)) x r n → Answers l (at (rule a)) x
+        first q fail n h = record { answer = fail; amount = visiting n; rules = R.lvar2 refl q h }
         first q (ok e ts) n h =
             let k = grown (length line) e ts (omega arith) (spans g line h (held-more g line l a x fail tt held)) in
-            record { answer = wrap a x (k .answer); amount = visiting (n ⊕ k .amount); rules = R.lvar1 q h (k .rules) }
+            record { answer = wrap a x (k .answer); amount = visiting (n ⊕ k .amount); rules = R.lvar1 refl q h (k .rules) }
 
       used : (a : ℕ) → (look l a x ≡ none → (q : Answer) → Spanned g line (root g a) x q → Answers (noted a x q l) (at (root g a)) x) → (o : Option Answer) → look l a x ≡ o → Answers l (at (rule a)) x
       used a v none q = let h = v q fail tt in first a (v q) q (h .answer) (h .amount) (h .rules)
-      used a v (some r) q = record { answer = wrap a x r; amount = visiting nothing; rules = R.lvar3 q }
+      used a v (some r) q = record { answer = wrap a x r; amount = visiting nothing; rules = R.lvar3 refl q }
 
     -- A rule that isn't live is none of s.
     fresh : (l : List Note) (a : ℕ) (s : List ℕ) → LiveAt l x s → look l a x ≡ none → Absent a s ⊎ In a s → Absent a s
@@ -182,9 +183,9 @@ module _ (g : Grammar) (line : List ℕ) where
         (λ q r s. lemma-2 (noted a x r l) (held-more g line l a x r s held) (rootOf g a) x (good .roots a la) inside) (look l a x) refl
 
   -- Every line has its reading by the bounded rules.
-  pub answered : Closed g → 0 < length (g .roots) → (r : Answer) × (n : Amount) × Reads g line r n
+  pub answered : Closed g → 0 < length (g .roots) → (r : Answer) × (n : Amount) × Reads g line everyRule r n
   unfolding look
   answered good rules =
       let h = use-answers good [] (λ b w q e. found refl e) 0 0 rules (omega arith) in
-      let k = as-reading g line (h .rules) in
+      let k = as-reading g line everyRule (h .rules) in
       (h .answer, k .0, k .1)

@@ -3,7 +3,6 @@
 use mathlib.Core.Path.{_≡_, refl, subst}
 use mathlib.Core.Logic.{_⊎_, inl, inr}
 use Prim.Native.Nat.{ℕ, zero, suc, _+_, _*_, _<_, _≤_}
-use mathlib.Core.Bool.{true}
 use mathlib.Core.List.{List, [], _∷_, _++_}
 use mathlib.Core.Option.{Option, none, some}
 use lib.ListN.{length, length-append}
@@ -11,7 +10,7 @@ use native.Mathlib.Omega.{arith}
 use Rattle.meaning.specs.Grammar.{Node, rule, Grammar, node, rootOf, root, Below, Closed, Answer, Note, noted, look}
 use Rattle.meaning.specs.Rules.{Plain, empty1, char1, char2, var}
 use Rattle.meaning.specs.Report.{bound}
-use Rattle.meaning.specs.Reading.{State, starting, spent, keeping, made, Visit, deep, wrapped, keep, useRule, recall, visited, visit, readBy}
+use Rattle.meaning.specs.Reading.{State, starting, spent, keeping, made, Visit, deep, wrapped, keep, keeps, useBy, useRule, recall, visited, visit, readBy}
 use Rattle.meaning.proofs.Answers.{found}
 use Rattle.meaning.proofs.OnePlain.{height, det}
 use Rattle.meaning.proofs.Runs.{Ends, ends-after, ends-map, ends-both, ends-counted}
@@ -181,8 +180,8 @@ module _ (g : Grammar) (line : List ℕ) where
       root-under : (o : List ℕ) (a x : ℕ) → Under o (rule a) x 0 → Under o (root g a) x 1
       root-under o a x u = lower-under x u (u .inside) (root-lower g line (u .rules))
 
-      of-use : (o : List ℕ) (a x : ℕ) (s : State) → Ends (Uses′ o by-effort a x s) (Uses′ o by-depth a x s) (Uses o a x s) (useRule g line true v l a x s)
-      unfolding useRule wrapped
+      of-use : (o : List ℕ) (a x : ℕ) (s : State) → Ends (Uses′ o by-effort a x s) (Uses′ o by-depth a x s) (Uses o a x s) (useRule g line keeps v l a x s)
+      unfolding useBy wrapped
       of-use o a x s =
           ends-after _ (v l (rootOf g a) x s) (wrapped a x) (hv o (rootOf g a) x s)
           (λ t h la u w. h (good .roots a la) (root-under o a x u) w)
@@ -198,7 +197,7 @@ module _ (g : Grammar) (line : List ℕ) where
       of-recall o i x n s none f e =
           let q : List ℕ = code L i x ∷ o in
           let t : State = spent n s in
-          ends-after _ _ (keep i x) (walk (laws q) (v l) (hv q) (useRule g line true v l) (of-use q) i x t)
+          ends-after _ _ (keep i x) (walk (laws q) (v l) (hv q) (useRule g line keeps v l) (of-use q) i x t)
           (λ t′ h li u w. let z = h li (under-open o i x u) (enter o i x n s li u e w) in omega arith)
           (λ t′ h li u w. let z = h li (under-open o i x u) (enter o i x n s li u e w) in omega arith)
           (λ r t′ h li u w. let k = h li (under-open o i x u) (enter o i x n s li u e w) in
@@ -206,32 +205,32 @@ module _ (g : Grammar) (line : List ℕ) where
           record { plain = k .plain; inv = leave o i x r t′ (u .inside) (k .plain) (k .inv); count = omega arith })
 
     of-visit : (d : ℕ) (l : List Note) (o : List ℕ) (i x : ℕ) (s : State)
-        → Ends (Visits′ o by-effort i x s) (Visits′ o by-depth i x s) (Visits o i x s) (visit g line true d l i x s)
+        → Ends (Visits′ o by-effort i x s) (Visits′ o by-depth i x s) (Visits o i x s) (visit g line keeps d l i x s)
     unfolding visit visited
     of-visit zero l o i x s =
         ends-counted _ _ _ (s .left) x s (λ t. deep x s) (λ e li u w. let z = room o s w in omega arith) (λ n e li u w. let z = room o s w in omega arith)
     of-visit (suc d) l o i x s =
-        ends-counted _ _ _ (s .left) x s (visited g line true (visit g line true d) l i x) (λ e li u w. let z = room o s w in omega arith)
-        (λ n e. of-recall (visit g line true d) l (of-visit d l) o i x n s (look (s .kept) i x) e refl)
+        ends-counted _ _ _ (s .left) x s (visited g line keeps (visit g line keeps d) l i x) (λ e li u w. let z = room o s w in omega arith)
+        (λ n e. of-recall (visit g line keeps d) l (of-visit d l) o i x n s (look (s .kept) i x) e refl)
 
     -- Where the plain rules answer the use of rule 0 at 0.
     module _ (rule-0 : 0 < length (g .roots)) {answer : Answer} (answered : Plain g line (rule 0) 0 answer) (allowance : ℕ) where
       -- The visits made are the allowance less what is left.
-      pub ceiling : Ends (λ t. allowance ≤ t .left + 2 * pairs) (λ t. allowance ≤ t .left + 2 * pairs) (λ r t. allowance ≤ t .left + 1 + 2 * pairs) (readBy g line true allowance)
+      pub ceiling : Ends (λ t. allowance ≤ t .left + 2 * pairs) (λ t. allowance ≤ t .left + 2 * pairs) (λ r t. allowance ≤ t .left + 1 + 2 * pairs) (readBy g line keeps allowance)
       unfolding readBy look
       ceiling =
           let s : State = starting allowance in
-          let v : List Note → Visit = visit g line true 512 in
+          let v : List Note → Visit = visit g line keeps 512 in
           let u : Under [] (rule 0) 0 0 = record { answer = _; rules = answered; inside = omega arith; above = λ j y c e ly m. absurd m } in
           let w : Inv [] s = record { right = λ i x r e. found refl e; inside = tt; distinct = tt } in
-          ends-map {E = Uses′ [] by-effort 0 0 s} {D = Uses′ [] by-depth 0 0 s} {P = Uses [] 0 0 s} (useRule g line true v [] 0 0 s) (of-use v [] (of-visit 512 []) [] 0 0 s)
+          ends-map {E = Uses′ [] by-effort 0 0 s} {D = Uses′ [] by-depth 0 0 s} {P = Uses [] 0 0 s} (useRule g line keeps v [] 0 0 s) (of-use v [] (of-visit 512 []) [] 0 0 s)
           (λ t h. let z = h rule-0 u w in omega arith)
           (λ t h. let z = h rule-0 u w in omega arith)
           (λ r t h. let k = h rule-0 u w in let z = k .count in let z′ = room [] t (k .inv) in omega arith)
 
-      pub visits-at-most : Ends (λ t. made allowance t ≤ bound g line) (λ t. made allowance t ≤ bound g line) (λ r t. made allowance t ≤ bound g line) (readBy g line true allowance)
-      visits-at-most = ends-map (readBy g line true allowance) ceiling (λ t h. omega arith) (λ t h. omega arith) (λ r t h. omega arith)
+      pub visits-at-most : Ends (λ t. made allowance t ≤ bound g line) (λ t. made allowance t ≤ bound g line) (λ r t. made allowance t ≤ bound g line) (readBy g line keeps allowance)
+      visits-at-most = ends-map (readBy g line keeps allowance) ceiling (λ t h. omega arith) (λ t h. omega arith) (λ r t h. omega arith)
 
       -- EFFORT is given with no visit left, so after more visits than there can be.
-      pub never-effort : bound g line ≤ allowance → Ends (λ t. ⊥) (λ t. Unit {0}) (λ r t. Unit {0}) (readBy g line true allowance)
-      never-effort le = ends-both (readBy g line true allowance) ceiling (effort-left g line true allowance) (λ t h k. omega arith) (λ t h k. tt) (λ r t h k. tt)
+      pub never-effort : bound g line ≤ allowance → Ends (λ t. ⊥) (λ t. Unit {0}) (λ r t. Unit {0}) (readBy g line keeps allowance)
+      never-effort le = ends-both (readBy g line keeps allowance) ceiling (effort-left g line keeps allowance) (λ t h k. omega arith) (λ t h k. tt) (λ r t h k. tt)

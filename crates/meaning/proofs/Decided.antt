@@ -7,15 +7,15 @@ use mathlib.Core.Bool as B
 use mathlib.Core.List.{List, []}
 use mathlib.Mathlib.Data.Bool.Basic.{or-inl, or-inr, not-iff-not}
 use lib.ListN.{length, getD}
-use lib.Dec.{eqb}
-use borrow.Author.Tests.{eqb-true, eqb-false, not-true}
+use lib.Dec.{ltb, eqb}
+use borrow.Author.Tests.{ltb-true, lt-ltb, eqb-true, eqb-false, not-true}
 use native.Mathlib.Omega.{arith}
 use Rattle.meaning.specs.Grammar.{Node, empty, range, rule, seq, choice, not, rep, Grammar, node, rootOf, root, Below, Closed}
 use Rattle.meaning.specs.Report.{MayBeEmpty, of-empty, of-not, of-rep, of-rule, of-seq, of-first, of-second, Chain, Leads, here, on, LeftRecursive, Free}
 use Rattle.meaning.specs.Report.{Starts, by-not, by-rep, by-choice, by-other, by-first, by-second, by-rule}
 use Rattle.meaning.specs.Report.{Child, to-first, to-second, to-one, to-other, to-denied, to-repeated, Reachable, start}
 use Rattle.meaning.specs.Report as report
-use Rattle.meaning.specs.Decide.{either, only, used, emptyBy, emptyNodes, emptyRules, startsOf, chained, ledTo, ledRules, goesTo, reachable, noneOf, isFree}
+use Rattle.meaning.specs.Decide.{either, only, used, emptyBy, emptyNodes, emptyRules, startsOf, chained, ledTo, ledRules, leftRecursive, goesTo, reachable, noneOf, isFree}
 use Rattle.meaning.proofs.Chains.{round}
 use Rattle.meaning.proofs.Reached.{Met, met-root, met-child, met-rule}
 use Rattle.meaning.proofs.Choose.{or-split}
@@ -150,14 +150,26 @@ module _ (g : Grammar) where
         led-start i b e (omega arith) (either-second (only a) (cond (getD es a false) (only b) []) b (rw may (only-self b)))
     led-step (by-rule {a = a}) i li e = let v : a < length (g .roots) = rw e at (good .nodes i li) in led-start i (rootOf g a) e (good .roots a v) (only-self (rootOf g a))
 
-    pub recursive-iff : (a : ℕ) → a < length (g .roots) → (getD (ledRules g a) a false ≡ true) ↔ LeftRecursive g a
+    led-iff : (a : ℕ) → a < length (g .roots) → (getD (ledRules g a) a false ≡ true) ↔ LeftRecursive g a
     unfolding ledRules ledTo
-    recursive-iff a la = (
+    led-iff a la = (
       λ e. round g a (led-rules-sound a a e),
       λ l.
           let t = led-on g (startsOf g es) refl (Starts g) (λ q w. led-step) (l .chain) (l .last) (rootOf g a) (good .roots a la) refl in
           use-used (g .nodes) (getD (chained g (startsOf g es)) (rootOf g a) []) a (t .number) (t .way) (t .is),
     )
+
+    -- The left-recursive ones among the grammar's rules, and no other number.
+    pub recursive-rule : (a : ℕ) → leftRecursive g a ≡ true → (a < length (g .roots)) × LeftRecursive g a
+    unfolding leftRecursive
+    recursive-rule a e =
+        let w = and-eq-true-iff (ltb a (length (g .roots))) (getD (ledRules g a) a false) .0 e in
+        let la = ltb-true a (length (g .roots)) (w .0) in
+        (la, led-iff a la .0 (w .1))
+
+    pub recursive-iff : (a : ℕ) → a < length (g .roots) → (leftRecursive g a ≡ true) ↔ LeftRecursive g a
+    unfolding leftRecursive
+    recursive-iff a la = (λ e. recursive-rule a e .1, λ l. and-eq-true-iff _ _ .1 (lt-ltb a (length (g .roots)) la, led-iff a la .1 l))
 
     led-child : {q : Node} (i j : ℕ) → node g i ≡ q → j < n → getD (goesTo g q) j false ≡ true → Led g (goesTo g) refl i (node g j)
     led-child = led g (goesTo g) refl
@@ -223,13 +235,13 @@ module _ (g : Grammar) where
 
     -- Whether rule k is both.
     abbrev both : ℕ → Bool
-    both k = getD rs k false && getD (ledRules g k) k false
+    both k = getD rs k false && leftRecursive g k
 
     both-iff : (k : ℕ) → k < length (g .roots) → (both k ≡ true) ↔ (Reachable g k × LeftRecursive g k)
     both-iff k lk =
         let r = reachable-iff (omega arith) k in
         let l = recursive-iff k lk in
-        let w = and-eq-true-iff (getD rs k false) (getD (ledRules g k) k false) in
+        let w = and-eq-true-iff (getD rs k false) (leftRecursive g k) in
         (λ e. (r .0 (w .0 e .0), l .0 (w .0 e .1)), λ h. w .1 (r .1 (h .0), l .1 (h .1)))
 
     none-next : (k : ℕ) → k < length (g .roots) → both k ≡ false → NoneOf k → (t : Bool) (a : ℕ) → eqb a k ≡ t → a < suc k → Reachable g a → LeftRecursive g a → ⊥

@@ -7,7 +7,7 @@ use mathlib.Core.Option.{Option, none, some}
 use lib.Dec.{ltb}
 use native.Mathlib.Omega.{arith}
 use Rattle.meaning.specs.Grammar.{Node, Grammar, rootOf, Trees, Answer, fail, ok, Note, noted, look}
-use Rattle.meaning.specs.Reading.{State, starting, spent, Run, Visit, after, wrapped, longer, attempted, grow, firstAttempt, useLive, keep, useRule, recall, visited, visit, readBy}
+use Rattle.meaning.specs.Reading.{State, starting, spent, Run, Visit, after, wrapped, longer, attempted, grow, firstAttempt, useLive, keep, Way, keeps, grows, becomesLive, useBy, useRule, recall, visited, visit, readBy}
 use Rattle.meaning.proofs.Runs.{Ends, ends-after, ends-map, ends-counted}
 use Rattle.meaning.proofs.Walk as W
 use Rattle.meaning.proofs.Walk.{Leaf, Refusal, by-effort, by-depth, Laws, walk}
@@ -81,31 +81,34 @@ module _ (g : Grammar) (line : List ℕ) where
   }
 
   module _ (v : List Note → Visit) (hv : (l : List Note) (i x : ℕ) (s : State) → Visits (s .left) (v l i x s)) where
-    of-use : (free : Bool) (l : List Note) (a x : ℕ) (s : State) → Spends (s .left) (useRule g line free v l a x s)
-    unfolding useRule wrapped
-    of-use true l a x s = on (s .left) (s .left) (v l (rootOf g a) x s) (wrapped a x) (omega arith) (hv l (rootOf g a) x s) (λ r t h. omega arith)
-    of-use false l a x s = of-live x (λ r. v (noted a x r l) (rootOf g a) x) (λ r. hv (noted a x r l) (rootOf g a) x) a s (look l a x)
+    of-by : (b : Bool) (l : List Note) (a x : ℕ) (s : State) → Spends (s .left) (useBy g line b v l a x s)
+    unfolding useBy wrapped
+    of-by false l a x s = on (s .left) (s .left) (v l (rootOf g a) x s) (wrapped a x) (omega arith) (hv l (rootOf g a) x s) (λ r t h. omega arith)
+    of-by true l a x s = of-live x (λ r. v (noted a x r l) (rootOf g a) x) (λ r. hv (noted a x r l) (rootOf g a) x) a s (look l a x)
+
+    of-use : (way : Way) (l : List Note) (a x : ℕ) (s : State) → Spends (s .left) (useRule g line way v l a x s)
+    of-use way l a = of-by (becomesLive way a) l a
 
     of-recall : (l : List Note) (i x : ℕ) (s : State) (o : Option Answer) → Spends (s .left) (recall g line v l i x s o)
     unfolding recall keep
     of-recall l i x s (some r) = omega arith
-    of-recall l i x s none = ends-after _ _ (keep i x) (walk laws (v l) (hv l) (useRule g line true v l) (of-use true l) i x s) (λ u h. h) (λ u h. h) (λ r u h. h)
+    of-recall l i x s none = ends-after _ _ (keep i x) (walk laws (v l) (hv l) (useRule g line keeps v l) (of-use keeps l) i x s) (λ u h. h) (λ u h. h) (λ r u h. h)
 
-    of-visited : (free : Bool) (l : List Note) (i x : ℕ) (s : State) → Spends (s .left) (visited g line free v l i x s)
+    of-visited : (way : Way) (l : List Note) (i x : ℕ) (s : State) → Spends (s .left) (visited g line way v l i x s)
     unfolding visited
-    of-visited true l i x s = of-recall l i x s (look (s .kept) i x)
-    of-visited false l i x s = walk laws (v l) (hv l) (useRule g line false v l) (of-use false l) i x s
+    of-visited keeps l i x s = of-recall l i x s (look (s .kept) i x)
+    of-visited (grows live) l i x s = walk laws (v l) (hv l) (useRule g line (grows live) v l) (of-use (grows live) l) i x s
 
-  of-visit : (free : Bool) (d : ℕ) (l : List Note) (i x : ℕ) (s : State) → Visits (s .left) (visit g line free d l i x s)
+  of-visit : (way : Way) (d : ℕ) (l : List Note) (i x : ℕ) (s : State) → Visits (s .left) (visit g line way d l i x s)
   unfolding visit
-  of-visit free zero l i x s = ends-counted _ _ _ (s .left) x s (λ t. _) (λ e. e) (λ n e. omega arith)
-  of-visit free (suc d) l i x s =
-      let v : List Note → Visit = visit g line free d in
-      ends-counted _ _ _ (s .left) x s (visited g line free v l i x) (λ e. e)
+  of-visit way zero l i x s = ends-counted _ _ _ (s .left) x s (λ t. _) (λ e. e) (λ n e. omega arith)
+  of-visit way (suc d) l i x s =
+      let v : List Note → Visit = visit g line way d in
+      ends-counted _ _ _ (s .left) x s (visited g line way v l i x) (λ e. e)
       (λ n e. let t : State = spent n s in
-      ends-map (visited g line free v l i x t) (of-visited v (of-visit free d) free l i x t) (λ u h. h) (λ u h. omega arith) (λ r u h. omega arith))
+      ends-map (visited g line way v l i x t) (of-visited v (of-visit way d) way l i x t) (λ u h. h) (λ u h. omega arith) (λ r u h. omega arith))
 
-  pub effort-left : (free : Bool) (allowance : ℕ)
-      → Ends (λ t. t .left ≡ 0) (λ t. (0 < t .left) × (t .left ≤ allowance)) (λ r t. t .left ≤ allowance) (readBy g line free allowance)
+  pub effort-left : (way : Way) (allowance : ℕ)
+      → Ends (λ t. t .left ≡ 0) (λ t. (0 < t .left) × (t .left ≤ allowance)) (λ r t. t .left ≤ allowance) (readBy g line way allowance)
   unfolding readBy
-  effort-left free allowance = of-use (visit g line free 512) (of-visit free 512) free [] 0 0 (starting allowance)
+  effort-left way allowance = of-use (visit g line way 512) (of-visit way 512) way [] 0 0 (starting allowance)

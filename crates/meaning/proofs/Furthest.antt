@@ -9,7 +9,7 @@ use lib.ListN.{length}
 use lib.Dec.{ltb}
 use native.Mathlib.Omega.{arith}
 use Rattle.meaning.specs.Grammar.{Node, Grammar, node, rootOf, Trees, Answer, fail, ok, wrap, Note, noted, look}
-use Rattle.meaning.specs.Reading.{State, starting, spent, Run, effort, deep, done, Visit, apply, wrapped, longer, attempted, grow, firstAttempt, useLive, keep, useRule, recall, visited, visit, readBy}
+use Rattle.meaning.specs.Reading.{State, starting, spent, Run, effort, deep, done, Visit, apply, wrapped, longer, attempted, grow, firstAttempt, useLive, keep, Way, keeps, grows, becomesLive, useBy, useRule, recall, visited, visit, readBy}
 use Rattle.meaning.proofs.Answers.{found}
 use Rattle.meaning.proofs.Notes.{look-cases}
 use Rattle.meaning.proofs.Runs.{Ends, ends-after, ends-map, ends-counted}
@@ -132,42 +132,45 @@ module _ (g : Grammar) (line : List ℕ) where
     of-live a s (some r) held w = (wrap-in a x r (held r refl), w)
 
   module _ (v : List Note → Visit) (hv : (l : List Note) → NotedIn l → (i x : ℕ) (s : State) → Asks x s → Stays (v l i x s)) (l : List Note) (held : NotedIn l) where
-    of-use : (free : Bool) (a x : ℕ) (s : State) → Asks x s → Stays (useRule g line free v l a x s)
-    unfolding useRule wrapped
-    of-use true a x s w = ends-after _ (v l (rootOf g a) x s) (wrapped a x) (hv l held (rootOf g a) x s w) (λ t h. h) (λ t h. h) (λ r t h. (wrap-in a x r (h .0), h .1))
-    of-use false a x s w =
+    of-by : (b : Bool) (a x : ℕ) (s : State) → Asks x s → Stays (useBy g line b v l a x s)
+    unfolding useBy wrapped
+    of-by false a x s w = ends-after _ (v l (rootOf g a) x s) (wrapped a x) (hv l held (rootOf g a) x s w) (λ t h. h) (λ t h. h) (λ r t h. (wrap-in a x r (h .0), h .1))
+    of-by true a x s w =
         of-live x (λ r. v (noted a x r l) (rootOf g a) x) (λ r t e u. hv (noted a x r l) (noted-more a x r l e held) (rootOf g a) x t (w .0, u)) a s (look l a x) (λ r e. held a x r e) (w .1)
 
-    of-node : (free : Bool) (i x : ℕ) (s : State) → Asks x s → Stays (apply line (v l) (useRule g line free v l) i x s (node g i))
-    of-node free i x s w =
-        stays-so (apply line (v l) (useRule g line free v l) i x s (node g i)) w
-        (walk laws (v l) (λ j y t. stays-if (v l j y t) (hv l held j y t)) (useRule g line free v l) (λ a y t. stays-if (useRule g line free v l a y t) (of-use free a y t)) i x s)
+    of-use : (way : Way) (a x : ℕ) (s : State) → Asks x s → Stays (useRule g line way v l a x s)
+    of-use way a = of-by (becomesLive way a) a
+
+    of-node : (way : Way) (i x : ℕ) (s : State) → Asks x s → Stays (apply line (v l) (useRule g line way v l) i x s (node g i))
+    of-node way i x s w =
+        stays-so (apply line (v l) (useRule g line way v l) i x s (node g i)) w
+        (walk laws (v l) (λ j y t. stays-if (v l j y t) (hv l held j y t)) (useRule g line way v l) (λ a y t. stays-if (useRule g line way v l a y t) (of-use way a y t)) i x s)
 
     of-recall : (i x : ℕ) (s : State) (o : Option Answer) → look (s .kept) i x ≡ o → Asks x s → Stays (recall g line v l i x s o)
     unfolding recall keep
     of-recall i x s (some r) e w = (w .1 .kept i x r e, w .1)
     of-recall i x s none e w =
-        ends-after _ (apply line (v l) (useRule g line true v l) i x s (node g i)) (keep i x) (of-node true i x s w) (λ t h. h) (λ t h. h)
+        ends-after _ (apply line (v l) (useRule g line keeps v l) i x s (node g i)) (keep i x) (of-node keeps i x s w) (λ t h. h) (λ t h. h)
         (λ r t h. (h .0, record { kept = noted-more i x r (t .kept) (h .0) (h .1 .kept); furthest = h .1 .furthest }))
 
-    of-visited : (free : Bool) (i x : ℕ) (s : State) → Asks x s → Stays (visited g line free v l i x s)
+    of-visited : (way : Way) (i x : ℕ) (s : State) → Asks x s → Stays (visited g line way v l i x s)
     unfolding visited
-    of-visited true i x s w = of-recall i x s (look (s .kept) i x) refl w
-    of-visited false i x s w = of-node false i x s w
+    of-visited keeps i x s w = of-recall i x s (look (s .kept) i x) refl w
+    of-visited (grows live) i x s w = of-node (grows live) i x s w
 
-  of-visit : (free : Bool) (d : ℕ) (l : List Note) → NotedIn l → (i x : ℕ) (s : State) → Asks x s → Stays (visit g line free d l i x s)
+  of-visit : (way : Way) (d : ℕ) (l : List Note) → NotedIn l → (i x : ℕ) (s : State) → Asks x s → Stays (visit g line way d l i x s)
   unfolding visit
-  of-visit free zero l held i x s w = ends-counted _ _ _ (s .left) x s (λ t. deep x s) (λ e. w .1) (λ n e. w .1)
-  of-visit free (suc d) l held i x s w =
-      ends-counted _ _ _ (s .left) x s (visited g line free (visit g line free d) l i x) (λ e. w .1)
-      (λ n e. of-visited (visit g line free d) (of-visit free d) l held free i x (spent n s) (w .0, record { kept = w .1 .kept; furthest = w .1 .furthest }))
+  of-visit way zero l held i x s w = ends-counted _ _ _ (s .left) x s (λ t. deep x s) (λ e. w .1) (λ n e. w .1)
+  of-visit way (suc d) l held i x s w =
+      ends-counted _ _ _ (s .left) x s (visited g line way (visit g line way d) l i x) (λ e. w .1)
+      (λ n e. of-visited (visit g line way d) (of-visit way d) l held way i x (spent n s) (w .0, record { kept = w .1 .kept; furthest = w .1 .furthest }))
 
   -- Of the whole reading.
-  pub furthest-inside : (free : Bool) (allowance : ℕ)
-      → Ends (λ t. t .furthest ≤ length line) (λ t. t .furthest ≤ length line) (λ r t. t .furthest ≤ length line) (readBy g line free allowance)
+  pub furthest-inside : (way : Way) (allowance : ℕ)
+      → Ends (λ t. t .furthest ≤ length line) (λ t. t .furthest ≤ length line) (λ r t. t .furthest ≤ length line) (readBy g line way allowance)
   unfolding readBy look
-  furthest-inside free allowance =
+  furthest-inside way allowance =
       let nothing : NotedIn [] = λ a x r e. found refl e in
-      ends-map (readBy g line free allowance)
-      (of-use (visit g line free 512) (of-visit free 512) [] nothing free 0 0 (starting allowance) (omega arith, record { kept = nothing; furthest = omega arith }))
+      ends-map (readBy g line way allowance)
+      (of-use (visit g line way 512) (of-visit way 512) [] nothing way 0 0 (starting allowance) (omega arith, record { kept = nothing; furthest = omega arith }))
       (λ t h. h .furthest) (λ t h. h .furthest) (λ r t h. h .1 .furthest)

@@ -3,14 +3,13 @@
 use mathlib.Core.Path.{_≡_, refl, sym, subst, ap, _∙_}
 use mathlib.Core.Logic.{_⊎_, inl, inr}
 use Prim.Native.Nat.{ℕ, zero, suc, _≤_, max}
-use mathlib.Core.Bool.{true}
 use mathlib.Core.List.{List, []}
 use mathlib.Core.Option.{Option, none, some}
 use native.Mathlib.Nat.{zero-max}
 use native.Mathlib.Omega.{arith}
 use Rattle.meaning.specs.Grammar.{Node, rule, rep, Grammar, node, rootOf, Answer, fail, ok, Note, noted, look}
 use Rattle.meaning.specs.Rules.{Plain, furthestOf, empty1, char1, char2, var, con1, con2, con3, ord1, ord2, not1, not2, rep1, rep2, rep3}
-use Rattle.meaning.specs.Reading.{State, starting, spent, keeping, Visit, deep, wrapped, keep, useRule, recall, visited, visit, readBy}
+use Rattle.meaning.specs.Reading.{State, starting, spent, keeping, Visit, deep, wrapped, keep, keeps, useBy, useRule, recall, visited, visit, readBy}
 use Rattle.meaning.proofs.Answers.{never, found}
 use Rattle.meaning.proofs.Conserve.{same-furthest}
 use Rattle.meaning.proofs.Notes.{look-cases}
@@ -142,33 +141,33 @@ module _ (g : Grammar) (line : List ℕ) where
   }
 
   module _ (v : List Note → Visit) (l : List Note) (hv : (i x : ℕ) (s : State) → All (Visits i x s) (v l i x s)) where
-    of-use : (a x : ℕ) (s : State) → All (Uses a x s) (useRule g line true v l a x s)
-    unfolding useRule wrapped
+    of-use : (a x : ℕ) (s : State) → All (Uses a x s) (useRule g line keeps v l a x s)
+    unfolding useBy wrapped
     of-use a x s = all-after _ (v l (rootOf g a) x s) (wrapped a x) (hv (rootOf g a) x s) (λ r t h o. let k = h o in record { plain = var (k .plain); right = k .right; reaches = k .reaches })
 
     of-recall : (i x : ℕ) (s : State) (o : Option Answer) → look (s .kept) i x ≡ o → All (Visits i x s) (recall g line v l i x s o)
     unfolding recall keep
     of-recall i x s (some r) e = λ o. record { plain = o i x r e; right = o; reaches = λ a. record { asks = a; furthest = omega (arith, a i x r e (o i x r e)) } }
     of-recall i x s none e =
-        all-after _ _ (keep i x) (walk laws (v l) hv (useRule g line true v l) of-use i x s)
+        all-after _ _ (keep i x) (walk laws (v l) hv (useRule g line keeps v l) of-use i x s)
         (λ r t h o. then-keep i (h o))
 
-  of-visit : (d : ℕ) (l : List Note) (i x : ℕ) (s : State) → All (Visits i x s) (visit g line true d l i x s)
+  of-visit : (d : ℕ) (l : List Note) (i x : ℕ) (s : State) → All (Visits i x s) (visit g line keeps d l i x s)
   unfolding visit visited
   of-visit zero l i x s = ends-counted _ _ _ (s .left) x s (λ t. deep x s) (λ e. tt) (λ n e. tt)
   of-visit (suc d) l i x s =
-      ends-counted _ _ _ (s .left) x s (visited g line true (visit g line true d) l i x) (λ e. tt)
-      (λ n e. of-recall (visit g line true d) l (of-visit d l) i x (spent n s) (look (s .kept) i x) refl)
+      ends-counted _ _ _ (s .left) x s (visited g line keeps (visit g line keeps d) l i x) (λ e. tt)
+      (λ n e. of-recall (visit g line keeps d) l (of-visit d l) i x (spent n s) (look (s .kept) i x) refl)
 
   -- One visit, where what is kept is right: it stays so.
-  pub visit-plain : (d : ℕ) (l : List Note) (i x : ℕ) (s : State) → Right (s .kept) → All (λ r t. Plain g line (node g i) x r × Right (t .kept)) (visit g line true d l i x s)
-  visit-plain d l i x s o = all-map {P = Visits i x s} (visit g line true d l i x s) (of-visit d l i x s) (λ r t h. let k = h o in (k .plain, k .right))
+  pub visit-plain : (d : ℕ) (l : List Note) (i x : ℕ) (s : State) → Right (s .kept) → All (λ r t. Plain g line (node g i) x r × Right (t .kept)) (visit g line keeps d l i x s)
+  visit-plain d l i x s o = all-map {P = Visits i x s} (visit g line keeps d l i x s) (of-visit d l i x s) (λ r t h. let k = h o in (k .plain, k .right))
 
   -- The whole reading: nothing is kept at first, and the furthest position is that of the derivation.
-  pub read-plain : (allowance : ℕ) → All (λ r t. (d : Plain g line (rule 0) 0 r) × (t .furthest ≡ furthestOf d)) (readBy g line true allowance)
+  pub read-plain : (allowance : ℕ) → All (λ r t. (d : Plain g line (rule 0) 0 r) × (t .furthest ≡ furthestOf d)) (readBy g line keeps allowance)
   unfolding readBy look
   read-plain allowance =
       let s = starting allowance in
-      let v : List Note → Visit = visit g line true 512 in
-      all-map {P = Uses 0 0 s} (useRule g line true v [] 0 0 s) (of-use v [] (of-visit 512 []) 0 0 s)
+      let v : List Note → Visit = visit g line keeps 512 in
+      all-map {P = Uses 0 0 s} (useRule g line keeps v [] 0 0 s) (of-use v [] (of-visit 512 []) 0 0 s)
       (λ r t h. let k = h (λ i x q e. found refl e) in (k .plain, k .reaches (λ i x q e d. found refl e) .furthest ∙ zero-max (furthestOf (k .plain))))

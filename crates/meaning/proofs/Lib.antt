@@ -18,6 +18,7 @@ pub mod Effort
 pub mod Spans
 pub mod Furthest
 pub mod Answered
+pub mod Needed
 pub mod Free
 pub mod Repeating
 pub mod Pairs

@@ -30,3 +30,8 @@ module _ (l : List Note) (a x : ℕ) (r : Answer) where
       at-head : (t : Bool) → (eqb a b && eqb x y) ≡ t → cond t (some r) (look l b y) ≡ some q → ((a ≡ b) × (x ≡ y) × (r ≡ q)) ⊎ (look l b y ≡ some q)
       at-head true e h = let both = and-eq-true-iff (eqb a b) (eqb x y) .0 e in inl (eqb-true a b (both .0), eqb-true x y (both .1), cc)
       at-head false e h = inr h
+
+-- What two tables have in common, they have in common with the same noted in both.
+pub look-both : (l m : List Note) (a x : ℕ) (r : Answer) (b y : ℕ) → look l b y ≡ look m b y → look (noted a x r l) b y ≡ look (noted a x r m) b y
+unfolding look
+look-both l m a x r b y e = rw e

@@ -2,7 +2,7 @@
 use mathlib.Core.Path.{_≡_}
 use mathlib.Core.Logic.{_⊎_, inl, inr}
 use Prim.Native.Nat.{ℕ, _<_, _≤_}
-use mathlib.Core.Bool.{true, and-eq-true-iff}
+use mathlib.Core.Bool.{Bool, true, and-eq-true-iff}
 use mathlib.Core.List.{List}
 use mathlib.Core.Option.{some}
 use lib.ListN.{length}
@@ -64,7 +64,7 @@ module _ (g : Grammar) (line : List ℕ) where
   still : {p : Node} {x : ℕ} → MayBeEmpty g p → Span p x x
   still m = record { forward = omega arith; inside = λ h. h; empty = λ h. m }
 
-  pub spans : {l : List Note} {p : Goal} {x : ℕ} {n : Amount} {r : Answer} → Bounded g line l p x r n → Held l → Goes p x r
+  pub spans : {live : ℕ → Bool} {l : List Note} {p : Goal} {x : ℕ} {n : Amount} {r : Answer} → Bounded g line live l p x r n → Held l → Goes p x r
   spans R.empty1 f = still of-empty
   spans (R.char1 {lo = lo} {hi = hi} {x = x} q) f =
       let z : x < length line = fits-inside line lo hi x q in record { forward = omega arith; inside = λ h. omega arith; empty = λ h. absurd (omega arith) }
@@ -79,9 +79,10 @@ module _ (g : Grammar) (line : List ℕ) where
   spans (R.rep1 h) f = still of-rep
   spans (R.rep2 h q k) f = both (spans h f) (spans k f) (λ i j. of-rep)
   spans (R.rep3 h) f = still of-rep
-  spans (R.lvar1 {l = l} {a = a} {x = x} {r = r} q h k) f = at-rule a x r (spans k f (spans h (held-more l a x fail tt f)))
-  spans (R.lvar2 q h) f = tt
-  spans (R.lvar3 {a = a} {x = x} {r = r} q) f = at-rule a x r (f a x r q)
+  spans (R.var {a = a} {x = x} {r = r} w h) f = at-rule a x r (spans h f)
+  spans (R.lvar1 {l = l} {a = a} {x = x} {r = r} w q h k) f = at-rule a x r (spans k f (spans h (held-more l a x fail tt f)))
+  spans (R.lvar2 w q h) f = tt
+  spans (R.lvar3 {a = a} {x = x} {r = r} w q) f = at-rule a x r (f a x r q)
   spans (R.inc1 {l = l} {a = a} {x = x} {e = e} {ts = ts} h q k) f = λ s. spans k f (spans h (held-more l a x (ok e ts) s f))
   spans (R.inc2 h) f = λ s. s
   spans (R.inc3 h q) f = λ s. s

@@ -6,6 +6,7 @@ use mathlib.Core.Bool.{Bool, true, false, _&&_, _||_, cond}
 use mathlib.Core.Bool as B
 use mathlib.Core.List.{List, [], _∷_, map}
 use lib.ListN.{length, getD, replicate}
+use lib.Dec.{ltb}
 use Rattle.meaning.specs.Grammar.{Node, empty, range, rule, seq, choice, not, rep, Grammar, rootOf}
 
 -- Marks joined, of whichever length.
@@ -98,6 +99,11 @@ module _ (g : Grammar) where
   unfolding ledTo emptyNodes
   ledRules a = used (g .nodes) (getD ledTo (rootOf g a) [])
 
+  -- Rule a is one of the grammar's, and such a chain leads to a use of the same rule.
+  unfoldable pub leftRecursive : ℕ → Bool
+  unfolding ledRules ledTo emptyNodes
+  leftRecursive a = ltb a (length (g .roots)) && getD (ledRules a) a false
+
   -- The nodes that are reached from a node by one step: its children, and the root of the rule that it uses.
   abbrev pub goesTo : Node → List Bool
   goesTo empty = []
@@ -115,8 +121,8 @@ module _ (g : Grammar) where
   -- None of the first k rules that are marked is left-recursive.
   abbrev pub noneOf : List Bool → ℕ → Bool
   noneOf rs zero = true
-  noneOf rs (suc k) = B.not (getD rs k false && getD (ledRules k) k false) && noneOf rs k
+  noneOf rs (suc k) = B.not (getD rs k false && leftRecursive k) && noneOf rs k
 
   unfoldable pub isFree : Bool
-  unfolding ledRules ledTo emptyNodes reachable
+  unfolding leftRecursive ledRules ledTo emptyNodes reachable
   isFree = noneOf reachable (length (g .roots))

@@ -5,7 +5,7 @@ use mathlib.Core.List.{List, []}
 use mathlib.Core.Option.{Option, none, some}
 use lib.Dec.{ltb, eqb}
 use Rattle.meaning.specs.Grammar.{Node, empty, range, rule, seq, choice, not, rep, Grammar, node, rootOf, Trees, no-trees, _⋈_, Answer, fail, ok, wrap, fits, Note, noted, look}
-use Rattle.meaning.specs.Decide.{isFree}
+use Rattle.meaning.specs.Decide.{leftRecursive, isFree}
 
 -- What a visit hands on: the visits left of the allowance, the kept answers of (node, position), and, by 02's W-203, "the largest position at which a range node
 -- was visited, 0 if none was".
@@ -138,31 +138,50 @@ unfoldable pub counted : ℕ → ℕ → State → (State → Run) → Run
 counted zero x s k = effort x s
 counted (suc l) x s k = k (spent l s)
 
+-- 01's two ways of reading. "Free grammars": each finished pair is kept, and a use of a rule visits its root. "All others": nothing is kept, and uses become live
+-- and grow; of which rules, is a parameter.
+pub data Way : Type 0 where
+  keeps : Way
+  grows : (ℕ → Bool) → Way
+
+-- Whether a use of rule a becomes live.
+abbrev pub becomesLive : Way → ℕ → Bool
+becomesLive keeps a = false
+becomesLive (grows live) a = live a
+
+-- The way of a grammar that is free, and of one that isn't.
+abbrev pub wayOf : Bool → (ℕ → Bool) → Way
+wayOf true live = keeps
+wayOf false live = grows live
+
 module _ (g : Grammar) (line : List ℕ) where
-  -- A use of a rule, in a grammar that is free or not; v visits, given the live uses.
-  unfoldable pub useRule : Bool → (List Note → Visit) → List Note → Visit
-  useRule true v l a x s = after (v l (rootOf g a) x s) (wrapped a x)
-  useRule false v l a x s = useLive (λ r. v (noted a x r l) (rootOf g a) x) a x s (look l a x)
+  -- A use of a rule that doesn't become live, and of one that does (003's var and lvar); v visits, given the live uses.
+  unfoldable pub useBy : Bool → (List Note → Visit) → List Note → Visit
+  useBy false v l a x s = after (v l (rootOf g a) x s) (wrapped a x)
+  useBy true v l a x s = useLive (λ r. v (noted a x r l) (rootOf g a) x) a x s (look l a x)
+
+  abbrev pub useRule : Way → (List Note → Visit) → List Note → Visit
+  useRule way v l a x s = useBy (becomesLive way a) v l a x s
 
   -- 01: "a later visit of that pair counts as one visit, works nothing and gives the kept answer".
   unfoldable pub recall : (List Note → Visit) → List Note → ℕ → ℕ → State → Option Answer → Run
   recall v l i x s (some r) = done r s
-  recall v l i x s none = after (apply line (v l) (useRule true v l) i x s (node g i)) (keep i x)
+  recall v l i x s none = after (apply line (v l) (useRule keeps v l) i x s (node g i)) (keep i x)
 
-  -- A visit that may be made, in a grammar that is free or not. 01: "All others. Nothing is kept but this."
-  unfoldable pub visited : Bool → (List Note → Visit) → List Note → Visit
-  visited true v l i x s = recall v l i x s (look (s .kept) i x)
-  visited false v l i x s = apply line (v l) (useRule false v l) i x s (node g i)
+  -- A visit that may be made. 01: "All others. Nothing is kept but this."
+  unfoldable pub visited : Way → (List Note → Visit) → List Note → Visit
+  visited keeps v l i x s = recall v l i x s (look (s .kept) i x)
+  visited (grows live) v l i x s = apply line (v l) (useRule (grows live) v l) i x s (node g i)
 
   -- 01: "else if 512 visits are open, DEEP". The number is how many more visits may be open.
-  unfoldable pub visit : Bool → ℕ → List Note → Visit
-  visit free zero l i x s = counted (s .left) x s (λ t. deep x s)
-  visit free (suc d) l i x s = counted (s .left) x s (visited free (visit free d) l i x)
+  unfoldable pub visit : Way → ℕ → List Note → Visit
+  visit way zero l i x s = counted (s .left) x s (λ t. deep x s)
+  visit way (suc d) l i x s = counted (s .left) x s (visited way (visit way d) l i x)
 
   -- 01: "The reading is a use of rule 0 at position 0; that use is not itself a visit."
-  unfoldable pub readBy : Bool → ℕ → Run
-  readBy free allowance = useRule free (visit free 512) [] 0 0 (starting allowance)
+  unfoldable pub readBy : Way → ℕ → Run
+  readBy way allowance = useRule way (visit way 512) [] 0 0 (starting allowance)
 
-  -- 01: "Free grammars." and "All others."
+  -- 02, W-205: "From now on only left-recursive rules become live; another rule's use visits its root once. [..] Free sheets don't change."
   unfoldable pub read : ℕ → Run
-  read allowance = readBy (isFree g) allowance
+  read allowance = readBy (wayOf (isFree g) (leftRecursive g)) allowance

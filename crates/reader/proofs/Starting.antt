@@ -1,5 +1,5 @@
 -- The visits start: the words stand for nothing live and nothing kept, and what the use of rule 0 says is the reading.
-use mathlib.Core.Path.{_≡_, refl, sym, subst, ap, _∙_}
+use mathlib.Core.Path.{_≡_, refl, sym, subst, ap, ap₂, _∙_}
 use mathlib.Core.Bool.{Bool, true}
 use mathlib.Core.List.{List, [], _∷_}
 use Prim.Native.Nat.{ℕ, _+_, _*_, _<_, _≤_}
@@ -8,14 +8,16 @@ use lib.ListN.{length, getD}
 use lib.Seq.{sets, length-sets}
 use lib.Dec.{ltb}
 use Rattle.meaning.specs.Grammar.{fail, ok, look}
-use Rattle.meaning.specs.Reading.{starting, Run, effort, deep, done, visit, useRule, readBy, read}
+use Rattle.meaning.specs.Reading.{starting, Run, effort, deep, done, wayOf, visit, useRule, readBy, read}
+use Rattle.meaning.specs.Decide.{leftRecursive, isFree}
 use Rattle.meaning.proofs.Sets.{sets-apart, sets-at}
 use Rattle.layout.specs.Table.{nodesOf, rulesOf, nodeAt, grammarOf}
-use Rattle.layout.proofs.Laying.{well-laid}
+use Rattle.layout.proofs.Laying.{well-laid, closed}
 use Rattle.sheet.proofs.Accepting.{laid}
+use Rattle.report.proofs.Computed.{recursive-bits}
 use Rattle.cells.specs.Arena.{Arena}
 use Rattle.cells.proofs.Frame.{arena-below}
-use Rattle.visits.specs.Given.{Given, lent, nodesIn, rootIn, keepsIn, baseIn, roomIn, Fit}
+use Rattle.visits.specs.Given.{Given, lent, nodesIn, rootIn, keepsIn, wayIn, baseIn, roomIn, Fit}
 use Rattle.visits.specs.Words.{topIn, madeIn, furthestIn, placeIn, keptAs, keptAt, Stands, Words}
 use Rattle.visits.specs.Says.{Visited, Starts, Ends, Says, Came, after-visit, uses}
 use Rattle.visits.proofs.Frame.{pair-in}
@@ -23,13 +25,13 @@ use Rattle.visits.proofs.Ready.{root-in}
 use Rattle.reader.specs.Answer.{workNeeded}
 use Rattle.reader.specs.Steps.{Startable, Tells, Visiting}
 
-pub some-rule : {table line w : List ℕ} {allowance : ℕ} {free : Bool} → Startable table line w allowance free → 0 < rulesOf table
+pub some-rule : {table line w : List ℕ} {allowance : ℕ} {free : Bool} {mask : ℕ} → Startable table line w allowance free mask → 0 < rulesOf table
 some-rule {table} s = well-laid table (laid table (s .fitting .accepted)) .some-rule
 
 -- From the words w₀, with no cell in use, no visit made and no range visited.
-module _ (table line w₀ w : List ℕ) (allowance flag at : ℕ) (free : Bool) (s : Startable table line w₀ allowance free) (ef : ltb 0 flag ≡ free) (ea : at ≡ nodeAt (rulesOf table) 0) (ew : w ≡ sets w₀ 2042 (0 ∷ 0 ∷ 0 ∷ [])) where
+module _ (table line w₀ w : List ℕ) (allowance flag at mask : ℕ) (free : Bool) (s : Startable table line w₀ allowance free mask) (ef : ltb 0 flag ≡ free) (ea : at ≡ nodeAt (rulesOf table) 0) (ew : w ≡ sets w₀ 2042 (0 ∷ 0 ∷ 0 ∷ [])) where
   abbrev given : Given
-  given = lent table (allowance ∷ flag ∷ at ∷ [])
+  given = lent table (allowance ∷ flag ∷ at ∷ mask ∷ [])
 
   long : length w ≡ length w₀
   long = ap length ew ∙ length-sets w₀ 2042 (0 ∷ 0 ∷ 0 ∷ [])
@@ -78,6 +80,7 @@ module _ (table line w₀ w : List ℕ) (allowance flag at : ℕ) (free : Bool) 
     open-in = omega arith;
     made-in = omega arith;
     top-in = omega arith;
+    order = λ e. record { rising = λ i j a b. absurd (omega arith); newest = λ i h. absurd (omega arith); ahead = λ i h. absurd (omega arith) };
   })
 
   none-kept : keepsIn given ≡ true → (i x : ℕ) → i < nodesIn given → x ≤ length line → look [] i x ≡ keptAt w (placeIn given line i x)
@@ -92,7 +95,10 @@ module _ (table line w₀ w : List ℕ) (allowance flag at : ℕ) (free : Bool) 
   -- The use of rule 0 is 01's reading.
   run-is : uses given line 512 [] 0 0 (starting allowance) ≡ read (grammarOf table) line allowance
   unfolding read readBy
-  run-is = ap (λ b. useRule (grammarOf table) line b (visit (grammarOf table) line b 512) [] 0 0 (starting allowance)) (ef ∙ s .free-is)
+  run-is =
+      let g = grammarOf table in
+      let way : wayIn given ≡ wayOf (isFree g) (leftRecursive g) = ap₂ wayOf (ef ∙ s .free-is) (recursive-bits g (closed table (laid table (s .fitting .accepted))) (s .left-rules)) in
+      ap (λ b. useRule g line b (visit g line b 512) [] 0 0 (starting allowance)) way
 
   told : (w′ : List ℕ) (v : Visited) (m : Run) → Says given line w′ 0 [] v m → Tells allowance (length line) w′ v m
   told w′ v (effort q t) h = record { end = h .end; list = h .list; small = h .small; left = h .left; furthest = h .furthest }

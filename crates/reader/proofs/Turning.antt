@@ -14,6 +14,7 @@ use Rattle.meaning.specs.Reading.{read}
 use Rattle.layout.specs.Table.{nodesOf, grammarOf}
 use Rattle.sheet.specs.Check.{checkOf}
 use Rattle.layout.proofs.Laying.{well-laid}
+use Rattle.report.specs.Report.{LeftRules}
 use Rattle.sheet.proofs.Accepting.{laid}
 use Rattle.cells.specs.Arena.{Arena}
 use Rattle.reader.specs.declared.Reading.{Reading}
@@ -78,10 +79,11 @@ module _ (table line : List ℕ) (allowance from needed : ℕ) (free : Bool) (w�
   kept-zero : free ≡ true → (i : ℕ) → 2048 + 4 * allowance ≤ i → i < needed → getD w₃ i 0 ≡ 0
   kept-zero e i a b = let q : from ≡ 2048 + 4 * allowance = ef ∙ ap (λ t. cond t (2048 + 4 * allowance) needed) e in others i (omega arith) ∙ c₂ .written i (omega arith) b
 
-  pub startable : free ≡ isFree (grammarOf table) → Arena w₃ 0 → Startable table line w₃ allowance free
-  startable e a = record {
+  pub startable : free ≡ isFree (grammarOf table) → {mask : ℕ} → LeftRules (grammarOf table) mask → Arena w₃ 0 → Startable table line w₃ allowance free mask
+  startable e m a = record {
     fitting = record { accepted = f .accepted; short = f .short; allowed = f .allowed; room = let r = f .room in let l = long₃ in omega arith };
     free-is = e;
+    left-rules = m;
     arena = a;
     kept = λ k i p q. kept-zero k i p (omega arith);
   }

@@ -9,6 +9,7 @@ use Rattle.meaning.specs.Decide.{isFree}
 use Rattle.meaning.specs.Reading.{State, Run, effort, deep, done}
 use Rattle.layout.specs.Table.{nodesOf, grammarOf}
 use Rattle.sheet.specs.Check.{Accepted}
+use Rattle.report.specs.Report.{LeftRules}
 use Rattle.cells.specs.Cells.{treesAt}
 use Rattle.cells.specs.Arena.{Arena}
 use Rattle.visits.specs.Words.{furthestIn}
@@ -30,9 +31,10 @@ pub record Fitting (table line work : List ℕ) (allowance : ℕ) : Type 0 where
   pub allowed : allowance ≤ mostAllowance
   pub room : workNeeded allowance (nodesOf table) (length line) ≤ length work
 
-pub record Startable (table line work : List ℕ) (allowance : ℕ) (free : Bool) : Type 0 where
+pub record Startable (table line work : List ℕ) (allowance : ℕ) (free : Bool) (left-recursive : ℕ) : Type 0 where
   pub fitting : Fitting table line work allowance
   pub free-is : free ≡ isFree (grammarOf table)
+  pub left-rules : LeftRules (grammarOf table) left-recursive
   pub arena : Arena work 0
   pub kept : free ≡ true → (i : ℕ) → 2048 + 4 * allowance ≤ i → i < workNeeded allowance (nodesOf table) (length line) → getD work i 0 ≡ 0
 

@@ -61,20 +61,27 @@ fn clear(work: &mut [u32], from: usize, to: usize)
 }
 
 // 1 for yes.
-fn flag(yes: bool) -> u32
+fn flag(yes: bool) -> u64
     ensures { λ r. ⌜ ltb 0 r ≡ yes ⌝ }
 {
     if yes { 1 } else { 0 }
 }
 
 // The use of rule 0 at position 0, which is not itself a visit; what it answers.
-fn start(table: &[u8], line: &[u8], work: &mut [u32], allowance: u32, free: bool) -> u64
-    requires { ⌜ Startable (now table) (now line) (now work) allowance free ⌝ }
+fn start(
+    table: &[u8],
+    line: &[u8],
+    work: &mut [u32],
+    allowance: u32,
+    free: bool,
+    left_recursive: u64,
+) -> u64
+    requires { ⌜ Startable (now table) (now line) (now work) allowance free «left_recursive» ⌝ }
     ensures numbers { λ r. ⌜ Visiting allowance (length (now (line .entry))) (workNeeded allowance (nodesOf (now (table .entry))) (length (now (line .entry)))) (now (work .entry)) (now (work .exit)) (after-visit r (now (work .exit))) ⌝ }
     ensures tells { λ r. ⌜ Tells allowance (length (now (line .entry))) (now (work .exit)) (after-visit r (now (work .exit))) (read (grammarOf (now (table .entry))) (now (line .entry)) allowance) ⌝ }
 {
-    let first = layout::first_node(table) as u32;
-    let given = [allowance, flag(free), first];
+    let first = layout::first_node(table) as u64;
+    let given = [allowance as u64, flag(free), first, left_recursive];
     let mut answer = 0u64;
     visits::no_visits(work);
     visits::read_line(&given, table, line, work, &mut answer);
@@ -189,11 +196,18 @@ fn read_line(
     requires { ⌜ Fitting (now table) (now line) (now work) allowance × (needed ≡ workNeeded allowance (nodesOf (now table)) (length (now line))) × EmptyNodes (grammarOf (now table)) (now marks) ⌝ }
     ensures { λ r. ⌜ Leaves (runOutcome whole (length (now (line .entry))) allowance (read (grammarOf (now (table .entry))) (now (line .entry)) allowance) (cleared needed (now (work .entry))) (now (room .entry))) r (now (work .exit)) (now (room .exit)) ⌝ }
 {
-    let free = report::is_free(table, work, marks);
-    let from = kept_from(free, 2048 + 4 * allowance as usize, needed);
+    let judged = report::judge(table, work, marks);
+    let from = kept_from(judged.free, 2048 + 4 * allowance as usize, needed);
     clear(work, from, needed);
     cells::no_cells(work);
-    let ended = start(table, line, work, allowance, free);
+    let ended = start(
+        table,
+        line,
+        work,
+        allowance,
+        judged.free,
+        judged.left_recursive,
+    );
     let answer = finish(line, work, room, whole, ended);
     clear(work, 0, needed);
     answer

@@ -1,5 +1,5 @@
--- There is one report on a table, one answer whether it is free, and one content of the working numbers after it.
-use mathlib.Core.Path.{_≡_, refl, sym, ap, _∙_}
+-- There is one report on a table, one judgement of it, and one content of the working numbers after it.
+use mathlib.Core.Path.{_≡_, refl, sym, ap, ap₂, _∙_}
 use mathlib.Core.Bool.{Bool, true, false}
 use mathlib.Core.List.{List}
 use Prim.Native.Nat.{ℕ}
@@ -9,6 +9,7 @@ use Rattle.bits.specs.Mask.{has, howMany, least}
 use Rattle.sheet.specs.Check.{checkOf, Accepted}
 use Rattle.empties.proofs.Once.{together, one-mask}
 use Rattle.report.specs.declared.Findings.{Findings}
+use Rattle.report.specs.declared.Judgement.{Judgement}
 use Rattle.report.specs.Report.{Reported}
 use Rattle.report.specs.Lent.{Answered}
 
@@ -41,10 +42,14 @@ module _ {t : List ℕ} {x y : Findings} (p : Reported t x) (q : Reported t y) w
   pub one-report : x ≡ y
   one-report = by-code (eqb (checkOf t .code) 0) refl
 
--- ---- Whether a table is free.
-pub one-answer : {t before : List ℕ} {x y : Bool} {v w : List ℕ} → Answered t x before v → Answered t y before w → (x ≡ y) × (v ≡ w)
+-- ---- The judgement.
+judgement : (left-recursive : ℕ) (free : Bool) → Judgement
+judgement l f = record { «left_recursive» = l; free = f }
+
+pub one-answer : {t before : List ℕ} {x y : Judgement} {v w : List ℕ} → Answered t x before v → Answered t y before w → (x ≡ y) × (v ≡ w)
+unfolding judgement
 one-answer {t} {before} p q =
     let a = p .used in
     let b = q .used in
     let told : a .told ≡ b .told = together (a .told) (b .told) (λ e. b .tells .1 (a .tells .0 e)) (λ e. a .tells .1 (b .tells .0 e)) in
-    (p .free ∙ sym (q .free), a .written ∙ rw told (sym (b .written)))
+    (ap₂ judgement (one-mask (p .left-recursive) (q .left-recursive)) (p .free ∙ sym (q .free)), a .written ∙ rw told (sym (b .written)))

@@ -6,7 +6,7 @@ use mathlib.Core.List.{List}
 use Rattle.meaning.specs.Grammar.{Grammar}
 use Prim.Native.Nat.{ℕ}
 use Rattle.bits.specs.Mask.{digit, has, howMany, least, maskOf}
-use Rattle.meaning.specs.Decide.{emptyNodes, emptyRules, ledTo, ledRules, reachable, isFree}
+use Rattle.meaning.specs.Decide.{emptyNodes, emptyRules, ledTo, ledRules, leftRecursive, reachable, isFree}
 use Rattle.meaning.proofs.Decided.{free-iff}
 use Rattle.layout.proofs.Laying.{closed}
 use Rattle.layout.specs.declared.Verdict.{Verdict}
@@ -18,10 +18,11 @@ use Rattle.layout.proofs.Worked.{tableA, sheetA, tableB, sheetB, tableUnused, s
 use Rattle.layout.proofs.Worked as layout
 use Rattle.sheet.proofs.Worked.{sheets}
 use Rattle.report.specs.declared.Findings.{Findings}
+use Rattle.report.specs.declared.Judgement.{Judgement}
 use Rattle.report.specs.Report.{Reported}
 use Rattle.report.specs.Lent.{Answered}
 use Rattle.empties.proofs.Once.{together}
-use Rattle.report.proofs.Computed.{recursiveRules, computed-empty, computed-recursive}
+use Rattle.report.proofs.Computed.{recursiveRules, recursive-mask, computed-empty, computed-recursive}
 
 code : Verdict → ℕ
 code v = v .code
@@ -38,7 +39,7 @@ record Shown (g : Grammar) (may-be-empty left-recursive how-many lowest : ℕ) (
   is-free : isFree g ≡ free
 
 shown : Shown sheetA 0 1 1 0 false × Shown sheetB 0 0 0 64 true × Shown sheetUnused 0 4 1 2 true
-unfolding maskOf emptyRules emptyNodes recursiveRules ledRules ledTo reachable isFree howMany least has digit
+unfolding maskOf emptyRules emptyNodes recursiveRules leftRecursive ledRules ledTo reachable isFree howMany least has digit
 shown = (
   record { empties = refl; lefts = refl; count = refl; low = refl; is-free = refl },
   record { empties = refl; lefts = refl; count = refl; low = refl; is-free = refl },
@@ -73,8 +74,11 @@ module _ (t : List ℕ) (g : Grammar) (accepted : checkOf t ≡ verdict READ 0) 
       free-is,
     )
 
-  answer-is : {answer : Bool} {before after : List ℕ} → Answered t answer before after → answer ≡ f
-  answer-is answered = answered .free ∙ ap isFree is ∙ s .is-free
+  judged-is : {answer : Judgement} {before after : List ℕ} → Answered t answer before after → (answer .«left_recursive» ≡ l) × (answer .free ≡ f)
+  judged-is answered = (
+    recursive-mask t is-accepted (answered .left-recursive) ∙ ap (λ h. maskOf (recursiveRules h)) is ∙ s .lefts,
+    answered .free ∙ ap isFree is ∙ s .is-free,
+  )
 
 -- A has a left-recursive rule at its start, B has none, and the one that B has when a third rule is added is not reachable.
 pub report-A : {x : Findings} → Reported tableA x
@@ -89,11 +93,11 @@ pub report-unused : {x : Findings} → Reported tableUnused x
     → (x .code ≡ 0) × (x .place ≡ 0) × (x .«may_be_empty» ≡ 0) × (x .«left_recursive» ≡ 4) × (x .«how_many» ≡ 1) × (x .lowest ≡ 2) × (x .free ≡ true)
 report-unused = report-is tableUnused sheetUnused (sheets .2) (layout.sheets .5) (shown .2)
 
-pub free-A : {answer : Bool} {before after : List ℕ} → Answered tableA answer before after → answer ≡ false
-free-A = answer-is tableA sheetA (sheets .0) (layout.sheets .1) (shown .0)
+pub judged-A : {answer : Judgement} {before after : List ℕ} → Answered tableA answer before after → (answer .«left_recursive» ≡ 1) × (answer .free ≡ false)
+judged-A = judged-is tableA sheetA (sheets .0) (layout.sheets .1) (shown .0)
 
-pub free-B : {answer : Bool} {before after : List ℕ} → Answered tableB answer before after → answer ≡ true
-free-B = answer-is tableB sheetB (sheets .1) (layout.sheets .3) (shown .1)
+pub judged-B : {answer : Judgement} {before after : List ℕ} → Answered tableB answer before after → (answer .«left_recursive» ≡ 0) × (answer .free ≡ true)
+judged-B = judged-is tableB sheetB (sheets .1) (layout.sheets .3) (shown .1)
 
-pub free-unused : {answer : Bool} {before after : List ℕ} → Answered tableUnused answer before after → answer ≡ true
-free-unused = answer-is tableUnused sheetUnused (sheets .2) (layout.sheets .5) (shown .2)
+pub judged-unused : {answer : Judgement} {before after : List ℕ} → Answered tableUnused answer before after → (answer .«left_recursive» ≡ 4) × (answer .free ≡ true)
+judged-unused = judged-is tableUnused sheetUnused (sheets .2) (layout.sheets .5) (shown .2)

@@ -1,4 +1,4 @@
--- What is promised to a caller who asks whether a table is free and lends working numbers.
+-- What is promised to a caller who asks which rules of a table are left-recursive and whether it is free, and lends working numbers.
 use mathlib.Core.Path.{_≡_}
 use mathlib.Core.Bool.{Bool, true, cond}
 use mathlib.Core.List.{List}
@@ -10,7 +10,9 @@ use Rattle.meaning.specs.Report.{Leads, LeftRecursive}
 use Rattle.meaning.specs.Decide.{isFree}
 use Rattle.layout.specs.Table.{nodesOf, grammarOf}
 use Rattle.empties.specs.Empties.{MaskOf}
+use Rattle.report.specs.declared.Judgement.{Judgement}
 use Rattle.report.specs.Pass.{startedAll, usedAll}
+use Rattle.report.specs.Report.{LeftRules}
 
 -- Rule 0, and the rules to a use of which a chain of starts leads from its root.
 pub data AtStart (g : Grammar) : ℕ → Type 0 where
@@ -40,7 +42,8 @@ pub record Used (t : List ℕ) (before after : List ℕ) : Type 0 where
   pub tells : (told ≡ true) ↔ Told (grammarOf t)
   pub written : after ≡ cond told (startedAll t before) (usedAll t before)
 
--- 02, W-202: "Free shall mean that no rule reachable from rule 0 [..] is left-recursive". The answer, and the working numbers after it.
-pub record Answered (t : List ℕ) (answer : Bool) (before after : List ℕ) : Type 0 where
-  pub free : answer ≡ isFree (grammarOf t)
+-- The mask of left-recursive rules, and 02, W-202: "Free shall mean that no rule reachable from rule 0 [..] is left-recursive". The answer, and the working numbers after it.
+pub record Answered (t : List ℕ) (answer : Judgement) (before after : List ℕ) : Type 0 where
+  pub left-recursive : LeftRules (grammarOf t) (answer .«left_recursive»)
+  pub free : answer .free ≡ isFree (grammarOf t)
   pub used : Used t before after

@@ -1,7 +1,7 @@
 // The report on a table: which rules may be empty, which are left-recursive, and whether the sheet is free (document 01, "The report", and 02's W-202).
 //
 // `report` takes any bytes, asks nothing of its caller and writes nowhere. Of a table that the check refuses it gives the check's code and place.
-// `is_free` asks for a table that is laid out well, for the marks of the nodes that may be empty (the crate `empties`), and for working numbers, as many as two
+// `judge` asks for a table that is laid out well, for the marks of the nodes that may be empty (the crate `empties`), and for working numbers, as many as two
 // for each node that a table may have. Of those it uses two for each node that the table has, and leaves the others as they were. It is for the reader, which
 // has such numbers at hand: a local array would have to be cleared.
 //
@@ -16,7 +16,7 @@
 //
 // What a reader must believe: specs/Report, with meaning's Report behind it, and specs/Lent. specs/Pass is what the other functions' contracts cite.
 // What is proved of it:
-//   proofs/Once        one report on a table; one answer whether it is free, and one content of the working numbers after it
+//   proofs/Once        one report on a table; one judgement of it, and one content of the working numbers after it
 //   proofs/Computed    both masks are those that meaning's Decide computes
 //   proofs/Worked      01's sheets A and B, and B with a rule that nobody uses
 //   proofs/Words       what is put down for a node is read there; a pass settles every node
@@ -43,7 +43,7 @@ ghost use Rattle.report.specs.Pass.{only, inRow, startsOf, startsAt, put
 ghost use Rattle.report.specs.Report.{LeftRules, ReachableRules, Reported};
 ghost use Rattle.report.specs.Lent.{StartRules, Judged, Answered};
 
-// How many working numbers `is_free` asks for.
+// How many working numbers `judge` asks for.
 pub const SCRATCH: usize = 2 * layout::MOST_NODES;
 
 // What the report gives: 01's code and place, the rules whose root may be empty and those that are left-recursive (bit i for rule i),
@@ -55,6 +55,12 @@ pub struct Findings {
     pub left_recursive: u64,
     pub how_many: u32,
     pub lowest: u32,
+    pub free: bool,
+}
+
+// What the reader is told: the left-recursive rules, as in the report, and whether none of them is reachable from rule 0.
+pub struct Judgement {
+    pub left_recursive: u64,
     pub free: bool,
 }
 
@@ -316,11 +322,15 @@ pub fn report(table: &[u8]) -> Findings
     }
 }
 
-// Whether no reachable rule of a table is left-recursive, for a caller who has the nodes that may be empty and lends working numbers.
-pub fn is_free(table: &[u8], scratch: &mut [u32], marks: &[u64; 8]) -> bool
+// Which rules of a table are left-recursive, and whether none of them is reachable, for a caller who has the nodes that may be empty and lends working numbers.
+pub fn judge(table: &[u8], scratch: &mut [u32], marks: &[u64; 8]) -> Judgement
     requires { ⌜ Laid (now table) × EmptyNodes (grammarOf (now table)) (now marks) × (2 * mostNodes ≤ length (now scratch)) ⌝ }
     ensures { λ answer. ⌜ Answered (now (table .entry)) answer (now (scratch .entry)) (now (scratch .exit)) ⌝ }
 {
     let found = masks(table, scratch, marks);
-    none_reached(table, scratch, found.left_recursive, found.at_start)
+    let free = none_reached(table, scratch, found.left_recursive, found.at_start);
+    Judgement {
+        left_recursive: found.left_recursive,
+        free,
+    }
 }

@@ -1,6 +1,7 @@
 -- A use that grows, over the words: its first attempt, and each turn of its loop.
 use mathlib.Core.Path.{_≡_, refl, _∙_}
 use mathlib.Core.Logic.{_≢_, _⊎_}
+use mathlib.Core.Bool.{false}
 use mathlib.Core.List.{List}
 use Prim.Native.Nat.{ℕ, _+_, _*_, _-_, _<_, _≤_}
 use native.Mathlib.Omega.{arith}
@@ -8,16 +9,16 @@ use lib.ListN.{length, getD}
 use Rattle.meaning.specs.Grammar.{no-trees, tree, Answer, fail, ok, rootOf, Note}
 use Rattle.meaning.specs.Reading.{State, effort, Visit}
 use Rattle.cells.specs.Cells.{treesAt}
-use Rattle.visits.specs.Given.{Given, keepsIn, allowanceIn, grammarIn, leftIn, liveIn, Fit}
-use Rattle.visits.specs.Words.{keyOf, topIn, madeIn, HeldAs, Words, Added}
+use Rattle.visits.specs.Given.{Given, keepsIn, wayIn, allowanceIn, grammarIn, leftIn, liveIn, posIn, Fit}
+use Rattle.visits.specs.Words.{keyOf, topIn, madeIn, HeldAs, Words, Same, Added}
 use Rattle.visits.specs.Says.{FAILED, STOPPED, endIn, listIn, Came, after-visit, reading, grows, Starts, Ends, EndsVisit}
-use Rattle.visits.proofs.Frame.{made-same, made-words}
+use Rattle.visits.proofs.Frame.{same-then, made-same, made-words}
 use Rattle.visits.proofs.Steps.{came-at}
 use Rattle.visits.proofs.Entering.{visit-none-left}
-use Rattle.visits.proofs.Living.{usePut, while-live, fresh-same}
+use Rattle.visits.proofs.Living.{usePut, while-live, fresh-same, order-same}
 use Rattle.visits.proofs.Growing.{kids, attempt, grown, Growing, begins, out-stop, out-held, turns, first-out, first-grown}
 use Rattle.visits.proofs.Ready.{ready-loop}
-use Rattle.visits.proofs.Depth.{starts-live, came-live, cells-live, fewer-live}
+use Rattle.visits.proofs.Depth.{pos-more, starts-live, came-live, cells-live, fewer-live}
 
 -- The loop over the words, from those where it began to those where it is.
 abbrev pub GrowingIn : (given : Given) (line : List ℕ) (spot root rule pos : ℕ) (w₀ : List ℕ) (end₀ : ℕ) (w : List ℕ) (end : ℕ) → Type 0
@@ -43,6 +44,7 @@ module _ (u : Use) where
   -- It may become live at the words w: its root may be visited, there is room, and no live use is the same.
   pub record Tried (w : List ℕ) : Type 0 where
     pub ready : Starts given line w spot root pos
+    pub there : pos ≡ posIn spot
     pub room : liveIn spot + leftIn spot ≤ 512
     pub small : rule < 64
     pub rooted : root ≡ rootOf (grammarIn given) rule
@@ -79,7 +81,7 @@ module _ (u : Use) where
   visiting = reading given line (leftIn spot)
 
   none-left : (l : List Note) (s : State) → s .left ≡ 0 → visiting l root pos s ≡ effort pos s
-  none-left l s e = visit-none-left (grammarIn given) line (keepsIn given) l root pos s (leftIn spot) e
+  none-left l s e = visit-none-left (grammarIn given) line (wayIn given) l root pos s (leftIn spot) e
 
   made-stays : {w₂ w₃ : List ℕ} {r : ℕ} → Planted w₂ r w₃ → madeIn w₃ ≡ madeIn w₂
   made-stays p = p .added .below 2043 (omega arith) (omega arith)
@@ -92,6 +94,7 @@ module _ (u : Use) where
         (came-live given line w spot root pos rule end list (t .ready) (t .room) inside below (a .put) r (a .visit));
     cells = cells-live given line w spot root pos rule end list (t .ready) (t .room) inside below (a .put) r (a .visit);
     fewer = fewer-live given line w spot root pos rule end list (t .ready) (t .room) inside below (a .put) r (a .visit);
+    ahead = λ p. rw (← pos-more spot (omega (arith, t .room))) (a .visit .ahead p);
   }
 
   -- The first attempt, while a failure is held.
@@ -100,7 +103,7 @@ module _ (u : Use) where
     first-attempt = attempted t a (omega arith) (omega arith) fail refl
 
     pub first-ends : STOPPED ≤ endIn r → Ends given line start w₂ spot r (λ l s. grows given line (leftIn spot) l rule pos s)
-    first-ends h = record { came = first-out given line (t .ready .fit) visiting root rule pos none-left (t .rooted) (t .fresh) (first-attempt .came) h; cells = first-attempt .cells }
+    first-ends h = record { came = first-out given line (t .ready .fit) visiting root rule pos none-left (t .rooted) (t .fresh) (first-attempt .came) h; cells = first-attempt .cells; ahead = first-attempt .ahead }
 
     pub first-low : endIn r < STOPPED → topIn w₂ < allowanceIn given
     first-low h = omega (arith, first-attempt .fewer h, first-attempt .came .made-in, t .ready .top-in)
@@ -116,17 +119,30 @@ module _ (u : Use) where
 
     -- At each turn the use may become live anew.
     module _ {w : List ℕ} {end : ℕ} (g : GrowingIn given line spot root rule pos w₃ (endIn r) w end) where
+      -- No live use but this one was written since the start.
+      same-so-far : Same given line start w (liveIn spot) (topIn start)
+      same-so-far =
+          let first = first-attempt (b .tried) (b .first) .came in
+          let up = first .top-up in
+          same-then given line (same-then given line (first .same) (made-same given line {live = liveIn spot} (b .tried .ready .fit) (omega (arith, b .tried .room)) (first-low (b .tried) (b .first) (b .short)) (b .made .added)) (omega arith) up)
+          (g .same) (omega arith) (omega (arith, up, b .made .top, b .made .next))
+
+      -- What is held ends at or after its position.
+      held-up : keepsIn given ≡ false → pos ≤ end
+      held-up p = omega (arith, b .tried .there, first-attempt (b .tried) (b .first) .ahead p, g .end-up)
+
       tried-again : Tried w
       tried-again = record {
-        ready = ready-loop (b .tried .ready) (omega (arith, first-attempt (b .tried) (b .first) .fewer (b .short), b .tried .ready .top-in, b .made .top, b .made .next, made-stays (b .made))) g;
+        ready = ready-loop (b .tried .ready) (omega (arith, first-attempt (b .tried) (b .first) .fewer (b .short), b .tried .ready .top-in, b .made .top, b .made .next, made-stays (b .made))) (λ p. order-same given line same-so-far (omega arith) (b .tried .ready .order p)) g;
+        there = b .tried .there;
         room = b .tried .room;
         small = b .tried .small;
         rooted = b .tried .rooted;
-        fresh = fresh-same given line (g .same) (fresh-same given line (made-same given line {live = liveIn spot} (b .tried .ready .fit) (omega (arith, b .tried .room)) (first-low (b .tried) (b .first) (b .short)) (b .made .added)) (fresh-same given line (first-attempt (b .tried) (b .first) .came .same) (b .tried .fresh)));
+        fresh = fresh-same given line same-so-far (b .tried .fresh);
       }
 
       pub starts-next : {w₁ : List ℕ} → w₁ ≡ usePut w (liveIn spot * 3) (keyOf rule pos) end (topIn w) → Starts given line w₁ (spot + 1024) root pos
-      starts-next put = starts-live given line w spot root pos rule end (topIn w) (tried-again .ready) (b .tried .room) (g .end-in) (omega arith) put
+      starts-next put = starts-live given line w spot root pos rule end (topIn w) (tried-again .ready) (b .tried .room) (g .end-in) (omega arith) put (b .tried .small) (λ p n. held-up p)
 
   -- One turn.
   module _ {r : ℕ} {w₃ w : List ℕ} {end : ℕ} {w₂ : List ℕ} {q : ℕ} (n : Turned r w₃ w end w₂ q) where
@@ -135,8 +151,8 @@ module _ (u : Use) where
 
     -- A way out of the loop is the end of the whole use.
     whole-ends : (a : ℕ) → Came given line w₃ w₂ (liveIn spot) (madeIn w₃) (topIn w₃) (after-visit a w₂) (λ l s. grown given line visiting root rule pos l (s .left) (endIn r) (kids (treesAt w₃ (topIn w₃))) s)
-        → Ends given line start w₂ spot a (λ l s. grows given line (leftIn spot) l rule pos s)
-    whole-ends a c =
+        → (keepsIn given ≡ false → posIn spot ≤ endIn a) → Ends given line start w₂ spot a (λ l s. grows given line (leftIn spot) l rule pos s)
+    whole-ends a c up =
         let b = n .begun in
         let one = first-attempt (b .tried) (b .first) in
         let top-next : topIn w₃ ≡ topIn (b .seen) + 1 = b .made .top ∙ b .made .next in
@@ -144,13 +160,15 @@ module _ (u : Use) where
           came = first-grown given line (b .tried .ready .fit) visiting root rule pos none-left (b .tried .rooted) (b .tried .fresh) (one .came) (b .short) (omega (arith, b .tried .room)) (first-low (b .tried) (b .first) (b .short))
               (rw (b .made .top, b .made .next) at (b .made .added)) (rw (made-stays (b .made), top-next) at c);
           cells = omega (arith, next-attempt .cells, n .growing .cells, one .fewer (b .short), top-next, made-stays (b .made));
+          ahead = up;
         }
 
     pub next-stops : endIn q ≡ STOPPED → Ends given line start w₂ spot q (λ l s. grows given line (leftIn spot) l rule pos s)
-    next-stops e = whole-ends q (out-stop given line (n .begun .tried .ready .fit) visiting root rule pos none-left (n .growing) (next-attempt .came) e)
+    next-stops e = whole-ends q (out-stop given line (n .begun .tried .ready .fit) visiting root rule pos none-left (n .growing) (next-attempt .came) e) (next-attempt .ahead)
 
     pub held-ends : (a : ℕ) → endIn a ≡ end → listIn a ≡ topIn w → (endIn q ≡ FAILED) ⊎ (endIn q ≤ end) → Ends given line start w₂ spot a (λ l s. grows given line (leftIn spot) l rule pos s)
     held-ends a e f c = whole-ends a (came-at given line (n .begun .tried .ready .fit .short) (endIn a) (listIn a) (topIn w₂) (madeIn w₂) e f refl refl (out-held given line (n .begun .tried .ready .fit) visiting root rule pos none-left (n .growing) (next-attempt .came) c))
+        (λ p. omega (arith, e, n .begun .tried .there, held-up (n .begun) (n .growing) p))
 
     -- A longer match: its tree is made, and the loop goes on.
     module _ (short : endIn q < STOPPED) where

@@ -1,6 +1,6 @@
--- One node's application, kind by kind, and a use by whether answers are kept.
+-- One node's application, kind by kind, and a use by whether it becomes live.
 use mathlib.Core.Path.{_≡_, refl, sym, ap, _∙_}
-use mathlib.Core.Logic.{_≢_}
+use mathlib.Core.Logic.{_≢_, _⊎_, inl, inr}
 use mathlib.Core.Bool.{Bool, true, false}
 use mathlib.Core.List.{List}
 use Prim.Native.Nat.{ℕ, zero, suc, _+_, _*_, _<_, _≤_, max}
@@ -9,8 +9,8 @@ use lib.ListN.{length}
 use lib.Dec.{ltb}
 use borrow.Author.Tests.{lt-ltb, le-ltb}
 use Rattle.meaning.specs.Grammar.{fits}
-use Rattle.meaning.specs.Reading.{Run, byte, after, second, otherwise, denied, repeated, wrapped, apply, useRule}
-use Rattle.visits.specs.Given.{Given, kindIn, aIn, bIn, rootIn, nodesIn, rulesIn, keepsIn, allowanceIn, grammarIn, leftIn, liveIn, posIn, Fit}
+use Rattle.meaning.specs.Reading.{Run, byte, after, second, otherwise, denied, repeated, wrapped, apply, becomesLive, wayOf, useBy}
+use Rattle.visits.specs.Given.{Given, kindIn, aIn, bIn, rootIn, nodesIn, rulesIn, keepsIn, growsIn, wayIn, allowanceIn, grammarIn, leftIn, liveIn, posIn, Fit}
 use Rattle.visits.specs.Words.{topIn, madeIn, furthestIn, reachedIn, Words}
 use Rattle.visits.specs.Says.{Visited, FAILED, Came, reading, uses, grows, applies, endOf, endIn, listIn, Ranges, Starts, Ends}
 use Rattle.visits.proofs.Frame.{written-top, written-words, reach-made}
@@ -18,6 +18,15 @@ use Rattle.visits.proofs.Steps.{came-as, came-at}
 use Rattle.visits.proofs.Nodes.{result, match-still}
 use Rattle.visits.proofs.Entering.{came-reached, range-in, range-out}
 use Rattle.visits.proofs.Ready.{root-is, below-as, applied-as, rules-are}
+
+-- Where answers are kept no use becomes live, and none of a rule that doesn't grow does.
+once-is : (given : Given) (a : ℕ) → (keepsIn given ≡ true) ⊎ (growsIn given a ≡ false) → becomesLive (wayIn given) a ≡ false
+once-is given a (inl k) = ap (λ b. becomesLive (wayOf b (growsIn given)) a) k
+once-is given a (inr g) = either (keepsIn given)
+  where
+    either : (b : Bool) → becomesLive (wayOf b (growsIn given)) a ≡ false
+    either true = refl
+    either false = g
 
 module _ (given : Given) (line : List ℕ) (fit : Fit given line) where
   -- One byte in a range, where its end is known.
@@ -78,20 +87,22 @@ module _ (given : Given) (line : List ℕ) (fit : Fit given line) where
         applied-as given line fit i 1 li k left pos
         (came-reached given line fit pos few words (range-came (aIn given i) (bIn given i) pos _ (written-words given line 2044 (omega arith) (omega arith) w (max (furthestIn w) pos) few words) le refl))
 
-  -- A use where answers are kept, and where they aren't.
+  -- A use of a rule that doesn't become live, and of one that does.
   module _ {w w′ : List ℕ} {live made top : ℕ} {r : Visited} (left a pos : ℕ) where
-    pub uses-free : keepsIn given ≡ true → (root : ℕ) → a < rulesIn given → root ≡ rootIn given a → Came given line w w′ live made top r (λ l s. after (reading given line left l root pos s) (wrapped a pos))
+    uses-by : (b : Bool) → becomesLive (wayIn given) a ≡ b → Came given line w w′ live made top r (λ l s. useBy (grammarIn given) line b (reading given line left) l a pos s)
         → Came given line w w′ live made top r (λ l s. uses given line left l a pos s)
-    unfolding useRule
-    uses-free k root la e c =
-        came-as given line (fit .short) (λ l s. uses given line left l a pos s) c
-        (λ l s. ap (λ j. after (reading given line left l j pos s) (wrapped a pos)) (e ∙ root-is given line fit a la)
-        ∙ ap (λ b. useRule (grammarIn given) line b (reading given line left) l a pos s) (sym k))
+    uses-by b e c = came-as given line (fit .short) (λ l s. uses given line left l a pos s) c (λ l s. ap (λ t. useBy (grammarIn given) line t (reading given line left) l a pos s) (sym e))
 
-    pub uses-grows : keepsIn given ≡ false → Came given line w w′ live made top r (λ l s. grows given line left l a pos s) → Came given line w w′ live made top r (λ l s. uses given line left l a pos s)
-    uses-grows k c =
-        came-as given line (fit .short) (λ l s. uses given line left l a pos s) c
-        (λ l s. ap (λ b. useRule (grammarIn given) line b (reading given line left) l a pos s) (sym k))
+    pub uses-once : (keepsIn given ≡ true) ⊎ (growsIn given a ≡ false) → (root : ℕ) → a < rulesIn given → root ≡ rootIn given a
+        → Came given line w w′ live made top r (λ l s. after (reading given line left l root pos s) (wrapped a pos)) → Came given line w w′ live made top r (λ l s. uses given line left l a pos s)
+    unfolding useBy
+    uses-once h root la e c =
+        uses-by false (once-is given a h)
+        (came-as given line (fit .short) (λ l s. useBy (grammarIn given) line false (reading given line left) l a pos s) c
+        (λ l s. ap (λ j. after (reading given line left l j pos s) (wrapped a pos)) (e ∙ root-is given line fit a la)))
+
+    pub uses-grows : keepsIn given ≡ false → growsIn given a ≡ true → Came given line w w′ live made top r (λ l s. grows given line left l a pos s) → Came given line w w′ live made top r (λ l s. uses given line left l a pos s)
+    uses-grows k g c = uses-by true (ap (λ b. becomesLive (wayOf b (growsIn given)) a) k ∙ g) c
 
   -- The children of a node, and the rule that it uses.
   module _ (i : ℕ) (li : i < nodesIn given) where
@@ -110,6 +121,12 @@ module _ (given : Given) (line : List ℕ) (fit : Fit given line) where
     pub repetition-child : kindIn given i ≡ 6 → aIn given i < nodesIn given
     repetition-child k = let b = below-as given line fit i 6 li k in omega arith
 
+-- A byte in a range ends after its position, and a failure is no position.
+byte-ahead : (x : ℕ) (b : Bool) → x ≤ FAILED → x ≤ endOf (byte x b)
+unfolding endOf byte
+byte-ahead x true h = omega arith
+byte-ahead x false h = h
+
 -- A range node is applied where a visit stands.
 pub range-ends : (given : Given) (line : List ℕ) {w w₁ : List ℕ} (spot i r : ℕ) → Starts given line w spot i (posIn spot) → kindIn given i ≡ 1 → Ranges given line i (posIn spot) r → w₁ ≡ reachedIn w (posIn spot)
     → Ends given line w w₁ spot r (λ l s. applies given line (leftIn spot) l i (posIn spot) s)
@@ -122,6 +139,7 @@ range-ends given line {w} spot i r ready kind range is =
       came = came-at given line (ready .fit .short) (endIn r) (listIn r) (topIn reached) (madeIn reached) (range .0) (range .1) top made
           (apply-range given line (ready .fit) (leftIn spot) i (posIn spot) (ready .node-in) (ready .words) (ready .made-in) few kind);
       cells = omega (arith, top, made);
+      ahead = λ p. rw (range .0) (byte-ahead (posIn spot) _ (omega (arith, ready .pos-in, ready .fit .short)));
     })
 
 -- Whether answers are kept, by the number that says so.

@@ -7,7 +7,7 @@ use native.Mathlib.Omega.{arith}
 use lib.ListN.{length, getD}
 use borrow.Author.Tests.{lt-ltb, le-ltb}
 use Rattle.meaning.specs.Grammar.{Trees, no-trees, tree, Answer, fail, ok, wrap, rootOf, Note, noted}
-use Rattle.meaning.specs.Reading.{State, Run, effort, deep, done, after, Visit, wrapped, longer, attempted, grow, firstAttempt, useLive, useRule}
+use Rattle.meaning.specs.Reading.{State, Run, effort, deep, done, after, Visit, wrapped, longer, attempted, grow, firstAttempt, useLive, useBy}
 use Rattle.cells.specs.Cells.{treesAt}
 use Rattle.visits.specs.Given.{Given, allowanceIn, grammarIn, Fit}
 use Rattle.visits.specs.Words.{Added, keyOf, Stands, Words, Same}
@@ -36,6 +36,7 @@ module _ (given : Given) (line : List ℕ) (v : List Note → Visit) (root a x :
     pub same : Same given line w₀ w live top₀
     pub words : Words given line w live top
     pub end-in : end ≤ length line
+    pub end-up : end₀ ≤ end
     pub top-up : top₀ ≤ top
     pub top-in : 0 < top
     pub made-up : made₀ ≤ made
@@ -111,6 +112,7 @@ module _ (given : Given) (line : List ℕ) (fit : Fit given line) (v : List Note
         same = same-none given line w live top;
         words = words;
         end-in = inside;
+        end-up = omega arith;
         top-up = omega arith;
         top-in = some;
         made-up = omega arith;
@@ -173,6 +175,7 @@ module _ (given : Given) (line : List ℕ) (fit : Fit given line) (v : List Note
           same = same-then given line (same-then given line (g .same) (n .same) (omega arith) a₁) s₁ (omega arith) (omega arith);
           words = made-words given line fit few low m (n .words);
           end-in = n .end-in short;
+          end-up = omega (arith, g .end-up);
           top-up = omega arith;
           top-in = omega arith;
           made-up = omega arith;
@@ -192,7 +195,7 @@ module _ (given : Given) (line : List ℕ) (fit : Fit given line) (v : List Note
   module _ {w₀ w₁ : List ℕ} {live made top : ℕ} {first : Visited} (root-is : root ≡ rootOf (grammarIn given) a) (fresh : (i : ℕ) → i < live → getD w₀ (i * 3) 0 ≢ keyOf a x)
       (A : Came given line w₀ w₁ live made top first (λ l s. attempt given line v root a x l fail s)) where
     used : {w′ : List ℕ} {r : Visited} → Came given line w₀ w′ live made top r (λ l s. after (attempt given line v root a x l fail s) (firstAttempt (attempt given line v root a x l) a x)) → Came given line w₀ w′ live made top r (uses given line fit v a x)
-    unfolding useRule useLive
+    unfolding useBy useLive
     used {w′} {r} c =
         came-when given line (fit .short) (uses given line fit v a x) c
         (λ l s h. ap (λ j. after (v (noted a x fail l) j x s) (firstAttempt (λ q. v (noted a x q l) j x) a x)) root-is

@@ -12,12 +12,12 @@ use lib.Seq.{sets, length-sets}
 use lib.Dec.{eqb}
 use borrow.Author.Tests.{eqb-true, eqb-false}
 use Rattle.meaning.specs.Grammar.{Answer, fail, ok, Note, noted, look, node}
-use Rattle.meaning.specs.Reading.{State, keeping, Run, after, Visit, apply, keep, useRule, recall, visited}
+use Rattle.meaning.specs.Reading.{State, keeping, Run, after, Visit, apply, keep, Way, wayOf, useRule, recall, visited}
 use Rattle.meaning.proofs.Notes.{look-same, look-other}
 use Rattle.meaning.proofs.Sets.{sets-apart, sets-at}
 use Rattle.cells.specs.Cells.{treesAt}
 use Rattle.cells.proofs.Frame.{arena-same}
-use Rattle.visits.specs.Given.{Given, lent, nodesIn, keepsIn, baseIn, allowanceIn, pairsIn, grammarIn, Fit}
+use Rattle.visits.specs.Given.{Given, lent, nodesIn, keepsIn, growsIn, wayIn, baseIn, allowanceIn, pairsIn, grammarIn, Fit}
 use Rattle.visits.specs.Words.{placeIn, keptAs, keptAt, Stands, Words, Same, Kept}
 use Rattle.visits.specs.Says.{Visited, FAILED, STOPPED, Says, Came}
 use Rattle.visits.proofs.Frame.{pair-in, same-trees, lives-same}
@@ -159,22 +159,22 @@ module _ (given : Given) (line : List ℕ) where
       }
 
   module _ (fit : Fit given line) (v : List Note → Visit) (i x : ℕ) (li : i < nodesIn given) (lx : x ≤ length line) where
-    abbrev working : Bool → List Note → State → Run
-    working keeps l s = apply line (v l) (useRule (grammarIn given) line keeps v l) i x s (node (grammarIn given) i)
+    abbrev working : Way → List Note → State → Run
+    working way l s = apply line (v l) (useRule (grammarIn given) line way v l) i x s (node (grammarIn given) i)
 
     abbrev visiting : List Note → State → Run
-    visiting l s = visited (grammarIn given) line (keepsIn given) v l i x s
+    visiting l s = visited (grammarIn given) line (wayIn given) v l i x s
 
     -- Nothing is kept.
-    pub visited-plain : {w w′ : List ℕ} {live made top : ℕ} {r : Visited} → keepsIn given ≡ false → Came given line w w′ live made top r (working (keepsIn given)) → Came given line w w′ live made top r visiting
+    pub visited-plain : {w w′ : List ℕ} {live made top : ℕ} {r : Visited} → keepsIn given ≡ false → Came given line w w′ live made top r (working (wayIn given)) → Came given line w w′ live made top r visiting
     unfolding visited
-    visited-plain e c = came-as given line (fit .short) visiting c (λ l s. ap (λ b. working b l s) e ∙ ap (λ b. visited (grammarIn given) line b v l i x s) (sym e))
+    visited-plain e c = came-as given line (fit .short) visiting c (λ l s. ap (λ b. working (wayOf b (growsIn given)) l s) e ∙ ap (λ b. visited (grammarIn given) line (wayOf b (growsIn given)) v l i x s) (sym e))
 
     recalled : {w : List ℕ} {live made : ℕ} (free : keepsIn given ≡ true) (l : List Note) (s : State) (q : Option Answer) → Stands given line w live made l s → keptAt w (placeIn given line i x) ≡ q
         → recall (grammarIn given) line v l i x s q ≡ visiting l s
     unfolding visited
     recalled free l s q h e =
-        ap (recall (grammarIn given) line v l i x s) (sym e ∙ sym (h .kept free i x li lx)) ∙ ap (λ b. visited (grammarIn given) line b v l i x s) (sym free)
+        ap (recall (grammarIn given) line v l i x s) (sym e ∙ sym (h .kept free i x li lx)) ∙ ap (λ b. visited (grammarIn given) line (wayOf b (growsIn given)) v l i x s) (sym free)
 
     module _ {w : List ℕ} {live made top : ℕ} (words : Words given line w live top) (free : keepsIn given ≡ true) (le : made ≤ allowanceIn given) where
       -- A failure is kept, or a match is.
@@ -195,10 +195,10 @@ module _ (given : Given) (line : List ℕ) where
           (λ l s h. subst (Says given line w live l (result e (getD w (placeIn given line i x + 1) 0) top made)) (recalled free l s (some (ok e (treesAt w (getD w (placeIn given line i x + 1) 0)))) h (rw q refl))
           (refl, record { end = refl; inside = inside; stands = h }))
 
-      module _ (none-kept : getD w (placeIn given line i x) 0 ≡ 0) {w′ : List ℕ} {r : Visited} (c : Came given line w w′ live made top r (working (keepsIn given))) where
-        from-new : {w″ : List ℕ} {b : Visited} → Came given line w w″ live made top b (λ l s. after (working (keepsIn given) l s) (keep i x)) → Came given line w w″ live made top b visiting
+      module _ (none-kept : getD w (placeIn given line i x) 0 ≡ 0) {w′ : List ℕ} {r : Visited} (c : Came given line w w′ live made top r (working (wayIn given))) where
+        from-new : {w″ : List ℕ} {b : Visited} → Came given line w w″ live made top b (λ l s. after (working (wayIn given) l s) (keep i x)) → Came given line w w″ live made top b visiting
         unfolding recall keptAs
-        from-new d = came-when given line (fit .short) visiting d (λ l s h. ap (λ b. after (working b l s) (keep i x)) free ∙ recalled free l s none h (rw none-kept refl))
+        from-new d = came-when given line (fit .short) visiting d (λ l s h. ap (λ b. after (working (wayOf b (growsIn given)) l s) (keep i x)) free ∙ recalled free l s none h (rw none-kept refl))
 
         pub keep-stop : r .end ≡ STOPPED → Came given line w w′ live made top r visiting
         keep-stop e = from-new (stopped given line (fit .short) (λ l. keep i x) c e)
@@ -228,7 +228,7 @@ module _ (given : Given) (line : List ℕ) where
 
     -- The node was applied, and its answer kept.
     module _ {w : List ℕ} {live made top : ℕ} (words : Words given line w live top) (free : keepsIn given ≡ true) (le : made ≤ allowanceIn given) (none-kept : getD w (placeIn given line i x) 0 ≡ 0)
-        {w′ : List ℕ} {end list top′ made′ : ℕ} (c : Came given line w w′ live made top (result end list top′ made′) (working (keepsIn given)))
+        {w′ : List ℕ} {end list top′ made′ : ℕ} (c : Came given line w w′ live made top (result end list top′ made′) (working (wayIn given)))
         (few : live * 3 ≤ 2042) (low : top′ ≤ allowanceIn given) {w″ : List ℕ} (kept : Kept (lent [] (given .numbers)) line w′ w″ i x end list) where
       by-end : (end ≡ STOPPED) ⊎ ((end ≡ FAILED) ⊎ (end < STOPPED)) → Came given line w w″ live made top (result end list top′ made′) visiting
       by-end (inl e) = rw (kept .stopped e) (keep-stop words free le none-kept c e)

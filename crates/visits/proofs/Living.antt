@@ -3,21 +3,21 @@ use mathlib.Core.Path.{_≡_, refl, sym, subst, ap, _∙_}
 use mathlib.Core.Logic.{_≢_, inl, inr}
 use mathlib.Core.List.{List, [], _∷_}
 use mathlib.Core.Option.{none, some}
-use mathlib.Core.Bool.{false}
+use mathlib.Core.Bool.{true}
 use Prim.Native.Nat.{ℕ, _+_, _*_, _-_, _<_, _≤_}
 use native.Mathlib.Nat.{add-zero}
 use native.Mathlib.Omega.{arith}
 use lib.ListN.{length, getD}
 use lib.Seq.{sets, length-sets}
 use Rattle.meaning.specs.Grammar.{Answer, fail, ok, wrap, rootOf, Note, noted, look}
-use Rattle.meaning.specs.Reading.{State, Run, effort, deep, done, Visit, useLive, useRule}
+use Rattle.meaning.specs.Reading.{State, Run, effort, deep, done, Visit, useLive, useBy}
 use Rattle.meaning.proofs.Notes.{look-same, look-other}
 use Rattle.meaning.proofs.Answers.{found}
 use Rattle.meaning.proofs.Sets.{sets-apart, sets-at}
 use Rattle.cells.specs.Cells.{treesAt}
 use Rattle.cells.proofs.Frame.{arena-same}
 use Rattle.visits.specs.Given.{Given, baseIn, allowanceIn, grammarIn, Fit}
-use Rattle.visits.specs.Words.{keyOf, HeldAs, Entry, Lives, Stands, Words, Same}
+use Rattle.visits.specs.Words.{keyOf, HeldAs, Entry, Lives, useAt, InOrder, Stands, Words, Same}
 use Rattle.visits.specs.Says.{Visited, FAILED, Says, Came}
 use Rattle.visits.proofs.Frame.{same-then, same-trees, stands-same}
 use Rattle.visits.proofs.Steps.{still}
@@ -67,6 +67,14 @@ module _ (w : List ℕ) (a x : ℕ) where
         held = h .held;
       })
 
+-- Live uses that stand in order stay so, and at a later position.
+pub order-same : (given : Given) (line : List ℕ) {old new : List ℕ} {live top x y : ℕ} → Same given line old new live top → x ≤ y → InOrder old live x → InOrder new live y
+order-same given line s le h = record {
+  rising = λ i j a b. omega (arith, s .uses (i * 3) (omega arith), s .uses (j * 3) (omega arith), h .rising i j a b);
+  newest = λ i a. omega (arith, s .uses (i * 3) (omega arith), h .newest i a);
+  ahead = λ i a n. omega (arith, s .uses (i * 3) (omega arith), s .uses (i * 3 + 1) (omega arith), h .ahead i a (λ z. n (s .uses (i * 3 + 2) (omega arith) ∙ z)));
+}
+
 -- Three words written one after the other.
 abbrev pub usePut : List ℕ → ℕ → ℕ → ℕ → ℕ → List ℕ
 usePut w p a b c = sets w p (a ∷ b ∷ c ∷ [])
@@ -87,13 +95,13 @@ module _ (w : List ℕ) (p a b c : ℕ) where
 
 module _ (given : Given) (line : List ℕ) (fit : Fit given line) where
   abbrev pub uses : (List Note → Visit) → ℕ → ℕ → List Note → State → Run
-  uses v a x l s = useRule (grammarIn given) line false v l a x s
+  uses v a x l s = useBy (grammarIn given) line true v l a x s
 
   -- A visit of a live pair.
   module _ {w : List ℕ} {live made top : ℕ} (v : List Note → Visit) (a x i : ℕ) (words : Words given line w live top) (le : made ≤ allowanceIn given) (small : a < 64) (lt : i < live)
       (key : getD w (i * 3) 0 ≡ keyOf a x) where
     gives : (l : List Note) (s : State) (h : Holds w a x i l) → done (wrap a x (h .answer)) s ≡ uses v a x l s
-    unfolding useRule useLive
+    unfolding useBy useLive
     gives l s h = ap (useLive (λ r. v (noted a x r l) (rootOf (grammarIn given) a) x) a x s) (sym (h .found))
 
     says-fail : (l : List Note) (s : State) → Stands given line w live made l s → getD w (i * 3 + 2) 0 ≡ 0 → (q : Answer)
@@ -155,6 +163,19 @@ module _ (given : Given) (line : List ℕ) (fit : Fit given line) where
     ends-now i lt = by-same i live
         (λ e. let f : getD entered (i * 3 + 1) 0 ≡ end = ap (λ j. getD entered (j * 3 + 1) 0) e ∙ use-second w (live * 3) (keyOf a x) end list wide in omega arith)
         (λ n. omega (arith, live-same .uses (i * 3 + 1) (omega arith), words .held-ends i (omega arith)))
+
+    -- The live uses stay in order.
+    pub live-order : a < 64 → (list ≢ 0 → x ≤ end) → InOrder w live x → InOrder entered (live + 1) x
+    live-order small up h =
+        let old : InOrder entered live x = order-same given line live-same (omega arith) h in
+        let last : useAt entered live ≡ x = omega (arith, use-first w (live * 3) (keyOf a x) end list wide) in
+        let ends : getD entered (live * 3 + 1) 0 ≡ end = use-second w (live * 3) (keyOf a x) end list wide in
+        let lists : getD entered (live * 3 + 2) 0 ≡ list = use-third w (live * 3) (keyOf a x) end list wide in
+        record {
+          rising = λ i j lt le. by-same j live (λ e. rw (e, last) (old .newest i (omega arith))) (λ n. old .rising i j lt (omega arith));
+          newest = λ i lt. by-same i live (λ e. rw (e, last) (omega arith)) (λ n. old .newest i (omega arith));
+          ahead = λ i lt. by-same i live (λ e. rw (e, last, ends, lists) up) (λ n. old .ahead i (omega arith));
+        }
 
     pub live-words : Words given line entered (live + 1) top
     live-words = record {

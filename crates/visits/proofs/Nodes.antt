@@ -128,7 +128,7 @@ module _ (given : Given) (line : List ℕ) (fit : Fit given line) where
             (then-match given line (fit .short) (λ l. joined (treesAt w₁ (a .list))) B g
             (came-made given line (fit .short) (b .end) fit few low n (B .words) (B .made-in) (B .end-in g)))
 
-    -- A use of a rule of a free grammar; x is its root.
+    -- A use of a rule that doesn't become live; x is its root.
     module _ (rule : ℕ) where
       abbrev useFree : List Note → State → Run
       useFree l s = after (v l x pos s) (wrapped rule pos)

@@ -6,6 +6,7 @@ use mathlib.Core.List.{List, []}
 use Prim.Native.Nat.{ℕ, _+_, _-_, _*_, _<_, _≤_}
 use native.Mathlib.Omega.{arith}
 use lib.ListN.{length, getD, set}
+use Rattle.meaning.proofs.Answers.{clash}
 use Rattle.layout.proofs.Laying.{well-laid}
 use Rattle.visits.specs.Given.{Given, lent, nodesIn, keepsIn, allowanceIn, roomIn, leftIn, liveIn, posIn, Fit}
 use Rattle.visits.specs.Words.{topIn, madeIn, placeIn, Entered, Roomy, Kept}
@@ -40,7 +41,7 @@ module _ (given : Given) (line w : List ℕ) (spot node pos : ℕ) (ready : Star
 
   still-open : (end list : ℕ) → endIn r ≡ end → listIn r ≡ list → Came given line w w (liveIn spot) (madeIn w) (topIn w) (result end list (topIn w) (madeIn w)) (λ l s. opens given line (leftIn spot) l node pos s)
       → Ends given line w w₁ spot r (λ l s. opens given line (leftIn spot) l node pos s)
-  still-open end list e f c = rw is (record { came = came-at given line (ready .fit .short) (endIn r) (listIn r) (topIn w) (madeIn w) e f refl refl c; cells = omega arith })
+  still-open end list e f c = rw is (record { came = came-at given line (ready .fit .short) (endIn r) (listIn r) (topIn w) (madeIn w) e f refl refl c; cells = omega arith; ahead = λ p. clash free p })
 
   pub kept-failure : word ≡ 1 → endIn r ≡ FAILED → listIn r ≡ 0 → Ends given line w w₁ spot r (λ l s. opens given line (leftIn spot) l node pos s)
   kept-failure k e f = still-open FAILED 0 e f (visited-fail given line (ready .fit) (reading given line (leftIn spot)) node pos (ready .node-in) (ready .pos-in) (ready .words) free (ready .made-in) k)
@@ -69,6 +70,7 @@ module _ (given : Given) (line w : List ℕ) (spot node pos : ℕ) (ready : Star
           came = came-at given line (ready .fit .short) (endIn r) (listIn r) (topIn w₃) (madeIn w₃) refl refl top-kept made-kept
               (applied-kept given line (ready .fit) (reading given line (leftIn spot)) node pos (ready .node-in) (ready .pos-in) (ready .words) free (ready .made-in) none (e .came) few (omega arith) k);
           cells = omega (arith, top-kept, made-kept);
+          ahead = e .ahead;
         }
 
 -- A visit that is counted, from the words w to w₁, and open: what is called next may start.
@@ -94,13 +96,15 @@ module _ (given : Given) (line w : List ℕ) (spot node : ℕ) (ready : Starts g
   pub opened : Opened given line w w₁ spot node → (w′ : List ℕ) (r : ℕ) → Ends given line w₁ w′ (spot - 1) r (λ l s. opens given line (leftIn (spot - 1)) l node (posIn (spot - 1)) s)
       → EndsVisit given line w w′ spot r (λ l s. reading given line (leftIn spot) l node (posIn spot) s)
   opened o w′ r e =
-      let h : Ends given line (set w 2043 (madeIn w + 1)) w′ (spot - 1) r (λ l s. opens given line (leftIn (spot - 1)) l node (posIn spot) s) = rw (o .counted, o .there) at e in
+      let h : Ends given line (set w 2043 (madeIn w + 1)) w′ (spot - 1) r (λ l s. opens given line (leftIn (spot - 1)) l node (posIn spot) s)
+      = record { came = rw (o .counted, o .there) at e .came; cells = rw (o .counted) at e .cells; ahead = e .ahead } in
       let c = cells-open given line w spot node (posIn spot) ready (o .more) (o .some) r h in
       record {
         came = enter-open given line (ready .fit) (leftIn spot) (leftIn (spot - 1)) node (posIn spot) (left-less spot (o .some)) (o .more) (let f = ready .open-in in omega arith) (ready .words)
             (came-open given line w spot node (posIn spot) ready (o .more) (o .some) r h);
         cells = omega arith;
         fewer = λ h. omega arith;
+        ahead = λ p. rw (← o .there) (e .ahead p);
       }
 
 -- Where nothing is kept, an open visit is the node's application.
@@ -109,28 +113,31 @@ pub plain-opens : (given : Given) (line w : List ℕ) (spot node pos : ℕ) → 
 plain-opens given line w spot node pos ready plain w′ r e = record {
   came = visited-plain given line (ready .fit) (reading given line (leftIn spot)) node pos (ready .node-in) (ready .pos-in) plain (e .came);
   cells = e .cells;
+  ahead = e .ahead;
 }
 
 -- A visit that is entered: refused, or counted.
 module _ (given : Given) (line w : List ℕ) (spot node pos : ℕ) (ready : Starts given line w spot node pos) {w₁ : List ℕ} {code : ℕ} where
-  pub refused : Entered (lent [] (given .numbers)) w w₁ spot code → code ≢ 0 → (r : ℕ) → endIn r ≡ STOPPED → listIn r ≡ code * 4096 + pos → EndsVisit given line w w₁ spot r (λ l s. reading given line (leftIn spot) l node pos s)
-  refused (inl h) n r e f =
+  pub refused : Entered (lent [] (given .numbers)) w w₁ spot code → code ≢ 0 → (r : ℕ) → endIn r ≡ STOPPED → listIn r ≡ code * 4096 + pos → posIn spot ≤ STOPPED → EndsVisit given line w w₁ spot r (λ l s. reading given line (leftIn spot) l node pos s)
+  refused (inl h) n r e f low =
       let is : code ≡ 11 = h .1 in
       rw (h .2) (record {
         came = came-at given line (ready .fit .short) (endIn r) (listIn r) (topIn w) (madeIn w) e (f ∙ ap (λ c. c * 4096 + pos) is) refl refl
             (enter-effort given line (ready .fit) (leftIn spot) node pos (ready .words) (ready .made-in) (ready .pos-in) (h .0));
         cells = omega arith;
         fewer = λ z. absurd (omega arith);
+        ahead = λ p. rw e low;
       })
-  refused (inr (inl h)) n r e f =
+  refused (inr (inl h)) n r e f low =
       let is : code ≡ 12 = h .2 in
       rw (h .3) (record {
         came = came-at given line (ready .fit .short) (endIn r) (listIn r) (topIn w) (madeIn w) e (f ∙ ap (λ c. c * 4096 + pos) is) refl refl
             (enter-deep given line (ready .fit) (leftIn spot) node pos (ready .words) (ready .made-in) (ready .pos-in) (h .0) (h .1));
         cells = omega arith;
         fewer = λ z. absurd (omega arith);
+        ahead = λ p. rw e low;
       })
-  refused (inr (inr h)) n r e f = absurd (n (h .2))
+  refused (inr (inr h)) n r e f low = absurd (n (h .2))
 
   pub refused-small : Entered (lent [] (given .numbers)) w w₁ spot code → code ≤ 12
   refused-small (inl h) = let is : code ≡ 11 = h .1 in omega arith

@@ -1,6 +1,7 @@
 -- Two visits one after the other, of a sequence or of a repetition: where the second starts, and what comes of both.
 use mathlib.Core.Path.{_≡_, refl, _∙_}
 use mathlib.Core.Logic.{_≢_}
+use mathlib.Core.Bool.{false}
 use mathlib.Core.List.{List}
 use Prim.Native.Nat.{ℕ, _+_, _*_, _<_, _≤_}
 use native.Mathlib.Omega.{arith}
@@ -9,9 +10,9 @@ use Rattle.meaning.specs.Grammar.{Trees, _⋈_, Note}
 use Rattle.meaning.specs.Reading.{State, Run, after, second, repeated}
 use Rattle.cells.specs.Cells.{treesAt}
 use Rattle.cells.specs.Arena.{Arena}
-use Rattle.visits.specs.Given.{Given, nodesIn, allowanceIn, leftIn, liveIn}
+use Rattle.visits.specs.Given.{Given, nodesIn, keepsIn, allowanceIn, leftIn, liveIn}
 use Rattle.visits.specs.Words.{topIn, madeIn, Added}
-use Rattle.visits.specs.Says.{FAILED, STOPPED, reading, endIn, listIn, after-visit, Came, Starts, Ends, EndsVisit}
+use Rattle.visits.specs.Says.{FAILED, STOPPED, reading, endIn, listIn, after-visit, Came, Visits, Starts, Ends, EndsVisit}
 use Rattle.visits.proofs.Steps.{came-at}
 use Rattle.visits.proofs.Nodes.{seq-second, seq-join, rep-next, rep-join}
 use Rattle.visits.proofs.Ready.{ready-next}
@@ -29,8 +30,8 @@ module _ (given : Given) (line : List ℕ) {w₀ w₁ : List ℕ} (spot x pos a 
   less : endIn a < STOPPED
   less = omega arith
 
-  pub starts-second : y < nodesIn given → Starts given line w₁ spot y end
-  starts-second inside = ready-next y end ready (first .came) (first .cells) inside (rw ends (first .came .end-in less))
+  pub starts-second : y < nodesIn given → (keepsIn given ≡ false → pos ≤ end) → Starts given line w₁ spot y end
+  starts-second inside up = ready-next y end ready (first .came) (first .cells) inside (rw ends (first .came .end-in less)) up
 
   abbrev sequence : List Note → State → Run
   sequence l s = after (reading given line (leftIn spot) l x pos s) (second (reading given line (leftIn spot) l) y)
@@ -38,7 +39,7 @@ module _ (given : Given) (line : List ℕ) {w₀ w₁ : List ℕ} (spot x pos a 
   abbrev repetition : List Note → State → Run
   repetition l s = after (reading given line (leftIn spot) l x pos s) (repeated (reading given line (leftIn spot) l) y pos)
 
-  module _ {w₂ : List ℕ} (b : ℕ) (next : EndsVisit given line w₁ w₂ spot b (λ l s. reading given line (leftIn spot) l y end s)) (last : ℕ) (lasts : last ≡ endIn b) where
+  module _ {w₂ : List ℕ} (b : ℕ) (next : Visits given line w₁ w₂ (liveIn spot) end (madeIn w₁) (topIn w₁) (after-visit b w₂) (λ l s. reading given line (leftIn spot) l y end s)) (last : ℕ) (lasts : last ≡ endIn b) where
     came-next : Came given line w₁ w₂ (liveIn spot) (madeIn w₁) (topIn w₁) (after-visit b w₂) (λ l s. reading given line (leftIn spot) l y (endIn a) s)
     came-next = rw ends at next .came
 
@@ -48,12 +49,14 @@ module _ (given : Given) (line : List ℕ) {w₀ w₁ : List ℕ} (spot x pos a 
       sequence-second = record {
         came = seq-second given line (ready .fit) (reading given line (leftIn spot)) x pos (first .came) y less came-next (omega arith);
         cells = omega (arith, first .cells, next .cells);
+        ahead = λ p. omega (arith, first .ahead p, next .ahead p);
       }
 
       pub repetition-second : end ≢ pos → Ends given line w₀ w₂ spot b repetition
       repetition-second on = record {
         came = rep-next given line (ready .fit) (reading given line (leftIn spot)) x pos (first .came) y less (λ e. on (ends ∙ e)) came-next (omega arith);
         cells = omega (arith, first .cells, next .cells);
+        ahead = λ p. omega (arith, first .ahead p, next .ahead p);
       }
 
     -- Both matched: each made fewer cells than visits, so that there is room for the cell that joins their trees.
@@ -90,6 +93,7 @@ module _ (given : Given) (line : List ℕ) {w₀ w₁ : List ℕ} (spot x pos a 
             came = came-at given line (ready .fit .short) (endIn r) (listIn r) (topIn w₃) (madeIn w₃) (is ∙ lasts) refl refl (added-made d)
                 (seq-join given line (ready .fit) (reading given line (leftIn spot)) x pos (first .came) y less came-next reached (omega arith) low added);
             cells = cells-joined;
+            ahead = λ p. omega (arith, first .ahead p, next .ahead p);
           }
 
           pub repetition-joined : end ≢ pos → Ends given line w₀ w₃ spot r repetition
@@ -97,4 +101,5 @@ module _ (given : Given) (line : List ℕ) {w₀ w₁ : List ℕ} (spot x pos a 
             came = came-at given line (ready .fit .short) (endIn r) (listIn r) (topIn w₃) (madeIn w₃) (is ∙ lasts) refl refl (added-made d)
                 (rep-join given line (ready .fit) (reading given line (leftIn spot)) x pos (first .came) y less (λ e. on (ends ∙ e)) came-next reached (omega arith) low added);
             cells = cells-joined;
+            ahead = λ p. omega (arith, first .ahead p, next .ahead p);
           }

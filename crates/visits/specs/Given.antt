@@ -1,4 +1,5 @@
--- What a reading is given: the table of the sheet, and three numbers, the allowance, whether answers are kept, and where the nodes start in the table.
+-- What a reading is given: the table of the sheet, and four numbers, the allowance, whether answers are kept, where the nodes start in the table, and the rules
+-- whose uses become live where answers aren't kept.
 use Prim.Native.Nat.{ℕ, _+_, _*_, _/_, _%_, _<_, _≤_}
 use mathlib.Core.Path.{_≡_}
 use mathlib.Core.Logic.{_⊎_}
@@ -6,7 +7,9 @@ use mathlib.Core.Bool.{Bool}
 use mathlib.Core.List.{List}
 use lib.ListN.{length, getD}
 use lib.Dec.{ltb}
+use Rattle.bits.specs.Mask.{has}
 use Rattle.meaning.specs.Grammar.{Grammar}
+use Rattle.meaning.specs.Reading.{Way, wayOf}
 use Rattle.layout.specs.Table.{nodesOf, rulesOf, rootOf, nodeAt, kindOf, aOf, bOf, grammarOf}
 use Rattle.layout.specs.Layout.{Laid}
 
@@ -57,6 +60,14 @@ keepsIn given = ltb 0 (getD (given .numbers) 1 0)
 -- Where the nodes start in the table.
 abbrev pub firstIn : Given → ℕ
 firstIn given = getD (given .numbers) 2 0
+
+-- Bit i for rule i, as in the report.
+abbrev pub growsIn : Given → ℕ → Bool
+growsIn given a = has (getD (given .numbers) 3 0) a
+
+-- The way of the reading.
+abbrev pub wayIn : Given → Way
+wayIn given = wayOf (keepsIn given) (growsIn given)
 
 -- The first word of the kept answers.
 abbrev pub baseIn : Given → ℕ

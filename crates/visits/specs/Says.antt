@@ -6,28 +6,28 @@ use mathlib.Core.Logic.{_≢_}
 use lib.ListN.{length, getD}
 use mathlib.Core.Bool.{true, false}
 use Rattle.meaning.specs.Grammar.{Answer, fail, ok, fits, Note, node}
-use Rattle.meaning.specs.Reading.{State, Run, effort, deep, done, EFFORT, DEEP, Visit, after, byte, second, otherwise, denied, repeated, wrapped, apply, useRule, visited, visit}
+use Rattle.meaning.specs.Reading.{State, Run, effort, deep, done, EFFORT, DEEP, Visit, after, byte, second, otherwise, denied, repeated, wrapped, apply, useBy, useRule, visited, visit}
 use Rattle.cells.specs.Cells.{treesAt}
-use Rattle.visits.specs.Given.{Given, kindIn, aIn, bIn, nodesIn, keepsIn, allowanceIn, rootIn, grammarIn, Fit, leftIn, liveIn, posIn}
+use Rattle.visits.specs.Given.{Given, kindIn, aIn, bIn, nodesIn, keepsIn, wayIn, allowanceIn, rootIn, grammarIn, Fit, leftIn, liveIn, posIn}
 pub use Rattle.visits.specs.Words.{FAILED, STOPPED}
-use Rattle.visits.specs.Words.{topIn, madeIn, furthestIn, placeIn, Stands, Words, Same}
+use Rattle.visits.specs.Words.{topIn, madeIn, furthestIn, placeIn, InOrder, Stands, Words, Same}
 
 -- The reading that the functions follow: a visit with so many open visits left, a use of a rule, a use that becomes
 -- live, a node's application, and a visit that is counted and open.
 abbrev pub reading : Given → List ℕ → ℕ → List Note → Visit
-reading given line left = visit (grammarIn given) line (keepsIn given) left
+reading given line left = visit (grammarIn given) line (wayIn given) left
 
 abbrev pub uses : Given → List ℕ → ℕ → List Note → Visit
-uses given line left = useRule (grammarIn given) line (keepsIn given) (reading given line left)
+uses given line left = useRule (grammarIn given) line (wayIn given) (reading given line left)
 
 abbrev pub grows : Given → List ℕ → ℕ → List Note → Visit
-grows given line left = useRule (grammarIn given) line false (reading given line left)
+grows given line left = useBy (grammarIn given) line true (reading given line left)
 
 abbrev pub applies : Given → List ℕ → ℕ → List Note → Visit
 applies given line left l i x s = apply line (reading given line left l) (uses given line left l) i x s (node (grammarIn given) i)
 
 abbrev pub opens : Given → List ℕ → ℕ → List Note → Visit
-opens given line left = visited (grammarIn given) line (keepsIn given) (reading given line left)
+opens given line left = visited (grammarIn given) line (wayIn given) (reading given line left)
 
 -- The steps that the functions take from a spot, on live uses and a state: a visit of a node, and what follows it for each kind of node.
 abbrev pub Step : Type 0
@@ -91,6 +91,7 @@ pub record Ready (given : Given) (line w : List ℕ) (left live made top node po
   pub open-in : live + left ≤ 513
   pub made-in : made ≤ allowanceIn given
   pub top-in : top ≤ made
+  pub order : keepsIn given ≡ false → InOrder w live pos
 
 -- A refusal with its code, at a position, over the words w.
 pub record Refused (allowance : ℕ) (w : List ℕ) (r : Visited) (code place : ℕ) (s : State) : Type 0 where
@@ -128,15 +129,17 @@ pub record Came (given : Given) (line old new : List ℕ) (live made top : ℕ) 
   pub made-in : r .made ≤ allowanceIn given
   pub says : (l : List Note) (s : State) → Stands given line old live made l s → Says given line new live l r (m l s)
 
--- What a node's application comes to makes no more cells than visits; a visit that matches makes fewer.
-pub record Applied (given : Given) (line old new : List ℕ) (live made top : ℕ) (r : Visited) (m : List Note → State → Run) : Type 0 where
+-- What a node's application at x comes to makes no more cells than visits, and ends at or after x where nothing is kept; a visit that matches makes fewer.
+pub record Applied (given : Given) (line old new : List ℕ) (live x made top : ℕ) (r : Visited) (m : List Note → State → Run) : Type 0 where
   pub came : Came given line old new live made top r m
   pub cells : r .top + made ≤ top + r .made
+  pub ahead : keepsIn given ≡ false → x ≤ r .end
 
-pub record Visits (given : Given) (line old new : List ℕ) (live made top : ℕ) (r : Visited) (m : List Note → State → Run) : Type 0 where
+pub record Visits (given : Given) (line old new : List ℕ) (live x made top : ℕ) (r : Visited) (m : List Note → State → Run) : Type 0 where
   pub came : Came given line old new live made top r m
   pub cells : r .top + made ≤ top + r .made
   pub fewer : r .end < STOPPED → r .top + made < top + r .made
+  pub ahead : keepsIn given ≡ false → x ≤ r .end
 
 -- The same, where the numbers stand in the words and in what is passed.
 abbrev pub Starts : (given : Given) (line w : List ℕ) (spot node pos : ℕ) → Type 0
@@ -149,10 +152,10 @@ abbrev pub StartsUse : (given : Given) (line w : List ℕ) (spot rule : ℕ) →
 StartsUse given line w spot rule = StartsHere given line w spot (rootIn given rule)
 
 abbrev pub Ends : (given : Given) (line old new : List ℕ) (spot r : ℕ) (m : List Note → State → Run) → Type 0
-Ends given line old new spot r m = Applied given line old new (liveIn spot) (madeIn old) (topIn old) (after-visit r new) m
+Ends given line old new spot r m = Applied given line old new (liveIn spot) (posIn spot) (madeIn old) (topIn old) (after-visit r new) m
 
 abbrev pub EndsVisit : (given : Given) (line old new : List ℕ) (spot r : ℕ) (m : List Note → State → Run) → Type 0
-EndsVisit given line old new spot r m = Visits given line old new (liveIn spot) (madeIn old) (topIn old) (after-visit r new) m
+EndsVisit given line old new spot r m = Visits given line old new (liveIn spot) (posIn spot) (madeIn old) (topIn old) (after-visit r new) m
 
 -- The same of a step at its spot.
 abbrev pub Does : (given : Given) (line old new : List ℕ) (spot r : ℕ) → Step → Type 0

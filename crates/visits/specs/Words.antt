@@ -1,9 +1,9 @@
 -- What the working numbers stand for: live uses from word 0 on, three words each; how many cells are in use, how many visits are made and the furthest
 -- position at which a range was visited; cells of trees; kept answers, two words a pair.
-use Prim.Native.Nat.{ℕ, zero, suc, _+_, _-_, _*_, _<_, _≤_, max}
+use Prim.Native.Nat.{ℕ, zero, suc, _+_, _-_, _*_, _/_, _<_, _≤_, max}
 use mathlib.Core.Path.{_≡_}
 use mathlib.Core.Logic.{_≢_, _⊎_}
-use mathlib.Core.Bool.{true}
+use mathlib.Core.Bool.{true, false}
 use mathlib.Core.List.{List, [], _∷_}
 use mathlib.Core.Option.{Option, none, some}
 use lib.ListN.{length, getD, set}
@@ -12,7 +12,7 @@ use Rattle.meaning.specs.Grammar.{Trees, no-trees, tree, Answer, fail, ok, Note
 use Rattle.meaning.specs.Reading.{State, EFFORT, DEEP}
 use Rattle.cells.specs.Cells.{recordsFrom, treesAt}
 use Rattle.cells.specs.Arena.{Arena}
-use Rattle.visits.specs.Given.{Given, longestLine, mostAllowance, nodesIn, keepsIn, baseIn, allowanceIn, pairsIn, roomIn, leftIn}
+use Rattle.visits.specs.Given.{Given, longestLine, mostAllowance, nodesIn, keepsIn, growsIn, baseIn, allowanceIn, pairsIn, roomIn, leftIn, liveIn, posIn}
 
 -- The ends that are no position.
 abbrev pub FAILED : ℕ
@@ -99,6 +99,20 @@ pub record Same (given : Given) (line old new : List ℕ) (live top : ℕ) : Typ
   pub cells : (i : ℕ) → recordsFrom ≤ i → i < 2048 + 4 * top → getD new i 0 ≡ getD old i 0
   pub past : (i : ℕ) → roomIn given line ≤ i → getD new i 0 ≡ getD old i 0
 
+-- The position of live use i.
+abbrev pub useAt : List ℕ → ℕ → ℕ
+useAt w i = getD w (i * 3) 0 / 64
+
+-- The live uses stand in the order of their positions.
+abbrev pub Rising : List ℕ → ℕ → Type 0
+Rising w live = (i j : ℕ) → i < j → j < live → useAt w i ≤ useAt w j
+
+-- So they do, none is past x, and what one holds ends at or after its position.
+pub record InOrder (w : List ℕ) (live x : ℕ) : Type 0 where
+  pub rising : Rising w live
+  pub newest : (i : ℕ) → i < live → useAt w i ≤ x
+  pub ahead : (i : ℕ) → i < live → getD w (i * 3 + 2) 0 ≢ 0 → useAt w i ≤ getD w (i * 3 + 1) 0
+
 -- The pair of a rule and a position is not live.
 abbrev pub NotLive : List ℕ → (live key : ℕ) → Type 0
 NotLive w live key = (i : ℕ) → i < live → getD w (i * 3) 0 ≢ key
@@ -108,6 +122,11 @@ pub record Found (w : List ℕ) (live key r : ℕ) : Type 0 where
   pub within : r ≤ live
   pub is : 0 < r → getD w ((r - 1) * 3) 0 ≡ key
   pub none : r ≡ 0 → NotLive w live key
+
+-- A search for the live use of a rule where a visit stands: a rule that doesn't grow has none.
+abbrev pub FoundUse : (given : Given) (w : List ℕ) (spot rule r : ℕ) → Type 0
+FoundUse given w spot rule r =
+    ((growsIn given rule ≡ false) × (r ≡ 0)) ⊎ ((growsIn given rule ≡ true) × Found w (liveIn spot) (keyOf rule (posIn spot)) r)
 
 -- The cells are in order, and a list is one of theirs, or two are; there is room for one cell more.
 abbrev pub HasList : List ℕ → ℕ → Type 0

@@ -1,9 +1,9 @@
 // Visits: the reading of a line over lent working numbers, visit by visit, as 01's "How a line is read" has it.
 //
-// A visit is lent three numbers (given: see specs/Given), the table, the line and the working numbers, and is told where it stands in one number
+// A visit is lent four numbers (given: see specs/Given), the table, the line and the working numbers, and is told where it stands in one number
 // (spot: the position, the live uses, the open visits left). What it answers is one number too: where it ends (or FAILED, or STOPPED by a
 // refusal) in the lower half, the list of its trees (or the refusal) in the upper.
-// specs/Words says what the working numbers stand for: the live uses (three words each from word 0 on), the number of cells in use and of visits
+// specs/Words says what the working numbers stand for: the live uses (three words each from word 0 on, in the order of their positions), the number of cells in use and of visits
 // made and the furthest position at which a range was visited (words 2042 to 2044), the cells of trees, and the kept answers (two words for each
 // pair of a node and a position).
 // The promise of each function (specs/Says): from words that stand for live uses and a state, the answer and the words it leaves say how the
@@ -22,8 +22,8 @@ ghost use Rattle.meaning.specs.Reading.{byte};
 ghost use Rattle.layout.specs.Table.{nodesOf, rulesOf, rootOf, nodeAt, kindOf, aOf, bOf};
 ghost use Rattle.layout.specs.Layout.{Laid};
 ghost use Rattle.cells.specs.Cells.{treesAt};
-ghost use Rattle.visits.specs.Given.{lent, longestLine, mostAllowance, allowanceIn, nodesIn, rulesIn, keepsIn, HasNode, HasRule, IsPair, IsOpen, beginning, leftIn, liveIn, posIn, Moved};
-ghost use Rattle.visits.specs.Words.{FAILED, keyOf, topWord, topIn, madeIn, furthestIn, reachedIn, placeIn, NotLive, HasList, HasLists, HasCell, Adds, Entered, HasPair, Roomy, Kept, Found};
+ghost use Rattle.visits.specs.Given.{lent, longestLine, mostAllowance, allowanceIn, nodesIn, rulesIn, keepsIn, growsIn, HasNode, HasRule, IsPair, IsOpen, beginning, leftIn, liveIn, posIn, Moved};
+ghost use Rattle.visits.specs.Words.{FAILED, keyOf, topWord, topIn, madeIn, furthestIn, reachedIn, placeIn, Rising, NotLive, HasList, HasLists, HasCell, Adds, Entered, HasPair, Roomy, Kept, Found, FoundUse};
 ghost use Rattle.visits.specs.Says.{reading, uses, grows, applies, opens, here, sequencing, choosing, denying, repeating, rooting, endOf, endIn, listIn, Holds, Ranges, StartsHere, StartsUse, Unkept, Does, DoesVisit};
 
 // The ends that are no position.
@@ -45,6 +45,8 @@ const ALLOWANCE: usize = 0;
 const KEEPS: usize = 1;
 
 const FIRST_NODE: usize = 2;
+
+const GROWING: usize = 3;
 
 // The working numbers that hold how many cells are in use, how many visits are made and the furthest position at which a range was visited, and the
 // first of the cells.
@@ -95,21 +97,21 @@ pub fn list_of(answer: u64) -> u32
     (answer / UPPER) as u32
 }
 
-fn kind_of(given: &[u32; 3], table: &[u8], node: u32) -> u32
+fn kind_of(given: &[u64; 4], table: &[u8], node: u32) -> u32
     requires { ⌜ HasNode (lent (now table) (now given)) node ⌝ }
     ensures { λ r. ⌜ (r ≡ kindOf (now (table .entry)) node) × (r < 7) ⌝ }
 {
     layout::kind_from(table, given[FIRST_NODE] as usize, node as usize) as u32
 }
 
-fn a_of(given: &[u32; 3], table: &[u8], node: u32) -> u32
+fn a_of(given: &[u64; 4], table: &[u8], node: u32) -> u32
     requires { ⌜ HasNode (lent (now table) (now given)) node ⌝ }
     ensures { λ r. ⌜ (r ≡ aOf (now (table .entry)) node) × (r < 512) ⌝ }
 {
     layout::field_a_from(table, given[FIRST_NODE] as usize, node as usize) as u32
 }
 
-fn b_of(given: &[u32; 3], table: &[u8], node: u32) -> u32
+fn b_of(given: &[u64; 4], table: &[u8], node: u32) -> u32
     requires { ⌜ HasNode (lent (now table) (now given)) node ⌝ }
     ensures { λ r. ⌜ (r ≡ bOf (now (table .entry)) node) × (r < 512) ⌝ }
 {
@@ -179,7 +181,7 @@ fn reach(work: &mut &mut [u32], pos: u32)
 
 // A range: one byte, and no trees. (Its fields are read before a word is written, so that the compiler need not find the node again.)
 fn visit_range(
-    given: &[u32; 3],
+    given: &[u64; 4],
     table: &[u8],
     line: &[u8],
     work: &mut &mut [u32],
@@ -235,22 +237,39 @@ fn put_use(work: &mut [u32], live: u32, key: u32, end: u32, list: u32)
     work[at + 2] = list;
 }
 
-// The live use of a pair, plus 1, or 0; at most one can fit. The search runs from the newest.
+// The live use of a pair, plus 1, or 0; at most one can fit. The search runs from the newest, and no further than one of an earlier position.
 fn find_use(work: &mut &mut [u32], live: u32, key: u32) -> u32
-    requires { ⌜ (live * 3 ≤ length (now (now work))) × (live ≤ 513) ⌝ }
+    requires few { ⌜ (live * 3 ≤ length (now (now work))) × (live ≤ 513) ⌝ }
+    requires order { ⌜ Rising (now (now work)) live ⌝ }
     ensures { λ r. ⌜ Found (now (now (work .entry))) live key r × (now (work .exit) ≡ now (work .entry)) ⌝ }
 {
     if live == 0 {
         return 0;
     }
+    let lowest = key - key % RULES;
     let mut i = live as usize - 1;
     while work[i * 3] != key {
+        if work[i * 3] < lowest {
+            return 0;
+        }
         if i == 0 {
             return 0;
         }
         i -= 1;
     }
     i as u32 + 1
+}
+
+// The live use of a rule here, plus 1, or 0: a rule that doesn't grow has none.
+fn live_use(given: &[u64; 4], work: &mut &mut [u32], spot: u64, rule: u32) -> u32
+    requires few { ⌜ (liveIn spot * 3 ≤ length (now (now work))) × ((liveIn spot ≤ 513) × ((rule < 64) × (posIn spot ≤ longestLine))) ⌝ }
+    requires order { ⌜ Rising (now (now work)) (liveIn spot) ⌝ }
+    ensures { λ r. ⌜ FoundUse (lent [] (now (given .entry))) (now (now (work .entry))) spot rule r × (now (work .exit) ≡ now (work .entry)) ⌝ }
+{
+    if !bits::has_rule(given[GROWING], rule as usize) {
+        return 0;
+    }
+    find_use(work, live_of(spot), pos_of(spot) * RULES + rule)
 }
 
 // What a live use holds, as an answer: list 0 is a failure.
@@ -294,7 +313,7 @@ fn planted(work: &mut [u32], rule: u32, start: u32, end: u32, children: u32) -> 
 }
 
 // Where the answer of a pair is kept.
-fn kept_at(given: &[u32; 3], line: &[u8], node: u32, pos: u32) -> usize
+fn kept_at(given: &[u64; 4], line: &[u8], node: u32, pos: u32) -> usize
     requires { ⌜ HasPair (lent [] (now given)) (now line) node pos ⌝ }
     ensures { λ r. ⌜ r ≡ placeIn (lent [] (now (given .entry))) (now (line .entry)) node pos ⌝ }
 {
@@ -302,7 +321,7 @@ fn kept_at(given: &[u32; 3], line: &[u8], node: u32, pos: u32) -> usize
 }
 
 // The word that is kept for a pair, 0 where nothing is.
-fn kept_word(given: &[u32; 3], line: &[u8], work: &mut &mut [u32], node: u32, pos: u32) -> u32
+fn kept_word(given: &[u64; 4], line: &[u8], work: &mut &mut [u32], node: u32, pos: u32) -> u32
     requires { ⌜ Roomy (lent [] (now given)) (now line) (now (now work)) node pos ⌝ }
     ensures { λ r. ⌜ (r ≡ getD (now (now (work .entry))) (placeIn (lent [] (now (given .entry))) (now (line .entry)) node pos) 0) × (now (work .exit) ≡ now (work .entry)) ⌝ }
 {
@@ -311,7 +330,7 @@ fn kept_word(given: &[u32; 3], line: &[u8], work: &mut &mut [u32], node: u32, po
 }
 
 // Keeps the answer of a finished pair; one that was refused has none.
-fn keep(given: &[u32; 3], line: &[u8], work: &mut [u32], node: u32, pos: u32, end: u32, list: u32)
+fn keep(given: &[u64; 4], line: &[u8], work: &mut [u32], node: u32, pos: u32, end: u32, list: u32)
     requires { ⌜ Roomy (lent [] (now given)) (now line) (now work) node pos × (end ≤ FAILED) ⌝ }
     ensures { λ _. ⌜ Kept (lent [] (now (given .entry))) (now (line .entry)) (now (work .entry)) (now (work .exit)) node pos end list ⌝ }
 {
@@ -335,12 +354,12 @@ fn put_kept(work: &mut [u32], at: usize, word: u32, list: u32)
 }
 
 // Enters a visit: the code by which it is refused, EFFORT before DEEP, or 0, and then it is counted.
-fn enter(given: &[u32; 3], work: &mut &mut [u32], spot: u64) -> u32
+fn enter(given: &[u64; 4], work: &mut &mut [u32], spot: u64) -> u32
     requires { ⌜ (2048 ≤ length (now (now work))) × (allowanceIn (lent [] (now given)) ≤ mostAllowance) ⌝ }
     ensures says { λ r. ⌜ Entered (lent [] (now (given .entry))) (now (now (work .entry))) (now (now (work .exit))) spot r ⌝ }
     ensures lent { λ _. ⌜ (now (work .exit)) .name ≡ (now (work .entry)) .name ⌝ }
 {
-    let allowance = given[ALLOWANCE];
+    let allowance = given[ALLOWANCE] as u32;
     let made = work[MADE];
     let left = left_of(spot);
     if allowance <= made {
@@ -354,7 +373,7 @@ fn enter(given: &[u32; 3], work: &mut &mut [u32], spot: u64) -> u32
 }
 
 fn visit_sequence(
-    given: &[u32; 3],
+    given: &[u64; 4],
     table: &&[u8],
     line: &&[u8],
     work: &mut &mut [u32],
@@ -381,7 +400,7 @@ fn visit_sequence(
 }
 
 fn visit_choice(
-    given: &[u32; 3],
+    given: &[u64; 4],
     table: &&[u8],
     line: &&[u8],
     work: &mut &mut [u32],
@@ -403,7 +422,7 @@ fn visit_choice(
 }
 
 fn visit_not(
-    given: &[u32; 3],
+    given: &[u64; 4],
     table: &&[u8],
     line: &&[u8],
     work: &mut &mut [u32],
@@ -428,7 +447,7 @@ fn visit_not(
 
 // A repetition of the child x, which is node `node`: its next visit is one of itself.
 fn visit_repetition(
-    given: &[u32; 3],
+    given: &[u64; 4],
     table: &&[u8],
     line: &&[u8],
     work: &mut &mut [u32],
@@ -461,9 +480,9 @@ fn visit_repetition(
     joined(*work, last, list_of(a), list_of(b))
 }
 
-// A use of a rule where answers are kept: its root is visited once.
-fn use_free(
-    given: &[u32; 3],
+// A use of a rule that doesn't become live: its root is visited once.
+fn use_once(
+    given: &[u64; 4],
     table: &&[u8],
     line: &&[u8],
     work: &mut &mut [u32],
@@ -488,7 +507,7 @@ fn use_free(
 
 // A use that becomes live and grows: each attempt visits the root while the match before is held, as list `held`.
 fn use_live(
-    given: &[u32; 3],
+    given: &[u64; 4],
     table: &&[u8],
     line: &&[u8],
     work: &mut &mut [u32],
@@ -532,9 +551,31 @@ fn use_live(
     last
 }
 
-// A use of a rule where nothing is kept: what is held if it is live, else it becomes live.
+// A use of a rule that isn't live, where nothing is kept: it becomes live, or visits its root once.
+fn use_fresh(
+    given: &[u64; 4],
+    table: &&[u8],
+    line: &&[u8],
+    work: &mut &mut [u32],
+    spot: u64,
+    rule: u32,
+) -> u64
+    requires ready { ⌜ StartsUse (lent (now (now table)) (now given)) (now (now line)) (now (now work)) spot rule ⌝ }
+    requires open { ⌜ IsOpen spot × (rule < rulesIn (lent (now (now table)) (now given))) ⌝ }
+    requires plain { ⌜ keepsIn (lent (now (now table)) (now given)) ≡ false ⌝ }
+    requires fresh { ⌜ (growsIn (lent (now (now table)) (now given)) rule ≡ true → NotLive (now (now work)) (liveIn spot) (keyOf rule (posIn spot))) ⌝ }
+    ensures says { λ r. ⌜ Does (lent (now (now (table .entry))) (now (given .entry))) (now (now (line .entry))) (now (now (work .entry))) (now (now (work .exit))) spot r (here uses rule) ⌝ }
+    ensures lent { λ _. ⌜ (now (work .exit)) .name ≡ (now (work .entry)) .name ⌝ }
+{
+    if bits::has_rule(given[GROWING], rule as usize) {
+        return use_live(given, table, line, work, spot, rule);
+    }
+    use_once(given, table, line, work, spot, rule)
+}
+
+// A use of a rule where nothing is kept: what is held if it is live.
 fn use_rule(
-    given: &[u32; 3],
+    given: &[u64; 4],
     table: &&[u8],
     line: &&[u8],
     work: &mut &mut [u32],
@@ -547,16 +588,16 @@ fn use_rule(
     ensures says { λ r. ⌜ Does (lent (now (now (table .entry))) (now (given .entry))) (now (now (line .entry))) (now (now (work .entry))) (now (now (work .exit))) spot r (here uses rule) ⌝ }
     ensures lent { λ _. ⌜ (now (work .exit)) .name ≡ (now (work .entry)) .name ⌝ }
 {
-    let found = find_use(work, live_of(spot), pos_of(spot) * RULES + rule);
+    let found = live_use(given, work, spot, rule);
     if found != 0 {
         return held_by(work, found - 1);
     }
-    use_live(given, table, line, work, spot, rule)
+    use_fresh(given, table, line, work, spot, rule)
 }
 
 // A sequence or a choice: its two children.
 fn visit_pair(
-    given: &[u32; 3],
+    given: &[u64; 4],
     table: &&[u8],
     line: &&[u8],
     work: &mut &mut [u32],
@@ -579,7 +620,7 @@ fn visit_pair(
 // One node's application: a decision over the kind, 0 to 6 and all above; then its answer is kept, where answers are. A rule comes here only
 // where they are.
 fn apply(
-    given: &[u32; 3],
+    given: &[u64; 4],
     table: &&[u8],
     line: &&[u8],
     work: &mut &mut [u32],
@@ -595,7 +636,7 @@ fn apply(
     let done = match kind_of(given, *table, node) {
         0 => answer(pos_of(spot), 0),
         1 => visit_range(given, *table, *line, work, pos_of(spot), node),
-        2 => use_free(given, table, line, work, spot, a_of(given, *table, node)),
+        2 => use_once(given, table, line, work, spot, a_of(given, *table, node)),
         3 => visit_pair(given, table, line, work, spot, node),
         4 => visit_pair(given, table, line, work, spot, node),
         5 => visit_not(given, table, line, work, spot, a_of(given, *table, node)),
@@ -627,7 +668,7 @@ fn apply(
 
 // An open visit where nothing is kept: it has nothing to do after what it calls, so it ends in a jump to it.
 fn visit_open(
-    given: &[u32; 3],
+    given: &[u64; 4],
     table: &&[u8],
     line: &&[u8],
     work: &mut &mut [u32],
@@ -650,7 +691,7 @@ fn visit_open(
 
 // A visit: the answer that is kept, or else the node is applied. It keeps no place on the stack, since it ends in a jump to what it calls.
 fn visit(
-    given: &[u32; 3],
+    given: &[u64; 4],
     table: &&[u8],
     line: &&[u8],
     work: &mut &mut [u32],
@@ -682,22 +723,22 @@ fn visit(
 }
 
 // The use of rule 0 at position 0, which is not itself a visit.
-fn first_use(given: &[u32; 3], table: &&[u8], line: &&[u8], work: &mut &mut [u32]) -> u64
+fn first_use(given: &[u64; 4], table: &&[u8], line: &&[u8], work: &mut &mut [u32]) -> u64
     requires ready { ⌜ StartsUse (lent (now (now table)) (now given)) (now (now line)) (now (now work)) beginning 0 ⌝ }
     requires some { ⌜ 0 < rulesIn (lent (now (now table)) (now given)) ⌝ }
     ensures says { λ r. ⌜ Does (lent (now (now (table .entry))) (now (given .entry))) (now (now (line .entry))) (now (now (work .entry))) (now (now (work .exit))) beginning r (here uses 0) ⌝ }
     ensures lent { λ _. ⌜ (now (work .exit)) .name ≡ (now (work .entry)) .name ⌝ }
 {
     if given[KEEPS] != 0 {
-        return use_free(given, table, line, work, BEGINNING, 0);
+        return use_once(given, table, line, work, BEGINNING, 0);
     }
-    use_live(given, table, line, work, BEGINNING, 0)
+    use_fresh(given, table, line, work, BEGINNING, 0)
 }
 
 // The whole reading: what it answers, and the working numbers that it was lent. (They are moved once more before they are returned: `all` itself
 // would go back as a part of what was lent, under a name of its own.)
 pub fn read_line<'a>(
-    given: &[u32; 3],
+    given: &[u64; 4],
     table: &[u8],
     line: &[u8],
     work: &'a mut [u32],

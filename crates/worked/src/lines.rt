@@ -11,8 +11,8 @@ pub(crate) fn sheet_a() {
     say::report(b"A, report", &table, a);
     say::prefix(b"A on 7+2", &table, a, b"7+2", 2_500);
     say::whole(b"A on 7+2, whole", &table, a, b"7+2", 2_500);
-    say::prefix(b"A on 7+2, allowance 22", &table, a, b"7+2", 22);
-    say::prefix(b"A on 7+2, allowance 21", &table, a, b"7+2", 21);
+    say::prefix(b"A on 7+2, allowance 19", &table, a, b"7+2", 19);
+    say::prefix(b"A on 7+2, allowance 18", &table, a, b"7+2", 18);
     say::prefix(b"A on 7", &table, a, b"7", 2_500);
     say::prefix(b"A on an empty line", &table, a, b"", 2_500);
     say::prefix(b"A on +", &table, a, b"+", 2_500);

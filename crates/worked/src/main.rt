@@ -1,6 +1,7 @@
 // Runs every worked line and every limit, and prints one line of text for each case.
 mod build;
 mod furthest;
+mod growing;
 mod limits;
 mod lines;
 mod loops;
@@ -13,6 +14,9 @@ fn main() {
     lines::sheet_b();
     lines::unused_rules();
     lines::other_sheets();
+    growing::rule_0_above();
+    growing::indirect();
+    growing::hidden();
     lines::doubling();
     furthest::looking_ahead();
     furthest::refused();

@@ -124,6 +124,90 @@ pub(crate) fn difference(table: &mut Table) -> usize {
     length
 }
 
+// L <- S '.' / D; S <- S '+' D / D; D <- [0-9]
+pub(crate) fn above(table: &mut Table) -> usize {
+    let length = head(table, 10, 3);
+    root(table, 0, 4);
+    root(table, 1, 8);
+    root(table, 2, 9);
+    rule(table, 0, 1);
+    rule(table, 1, 2);
+    range(table, 2, 46, 46);
+    seq(table, 3, 0, 2);
+    choice(table, 4, 3, 1);
+    range(table, 5, 43, 43);
+    seq(table, 6, 5, 1);
+    seq(table, 7, 0, 6);
+    choice(table, 8, 7, 1);
+    range(table, 9, 48, 57);
+    length
+}
+
+// A <- B 'x' / 'y'; B <- A / D; D <- 'z'
+pub(crate) fn indirect(table: &mut Table) -> usize {
+    let length = head(table, 9, 3);
+    root(table, 0, 4);
+    root(table, 1, 7);
+    root(table, 2, 8);
+    rule(table, 0, 1);
+    range(table, 1, 120, 120);
+    seq(table, 2, 0, 1);
+    range(table, 3, 121, 121);
+    choice(table, 4, 2, 3);
+    rule(table, 5, 0);
+    rule(table, 6, 2);
+    choice(table, 7, 5, 6);
+    range(table, 8, 122, 122);
+    length
+}
+
+// S <- 'x'? S T / T; T <- 'a'; U <- 'x'?, which is node 6
+pub(crate) fn behind_an_option(table: &mut Table) -> usize {
+    let length = head(table, 10, 3);
+    root(table, 0, 9);
+    root(table, 1, 3);
+    root(table, 2, 6);
+    rule(table, 0, 0);
+    rule(table, 1, 1);
+    rule(table, 2, 2);
+    range(table, 3, 97, 97);
+    range(table, 4, 120, 120);
+    empty(table, 5);
+    choice(table, 6, 4, 5);
+    seq(table, 7, 0, 1);
+    seq(table, 8, 6, 7);
+    choice(table, 9, 8, 1);
+    length
+}
+
+// The same with !'x' as node 6
+pub(crate) fn behind_a_not(table: &mut Table) -> usize {
+    let length = behind_an_option(table);
+    not(table, 6, 4);
+    length
+}
+
+// The same with 'x'* as node 6
+pub(crate) fn behind_a_repetition(table: &mut Table) -> usize {
+    let length = behind_an_option(table);
+    rep(table, 6, 4);
+    length
+}
+
+// S <- U S T / T; T <- 'a'; U <- 'x'?
+pub(crate) fn behind_a_rule(table: &mut Table) -> usize {
+    let length = behind_an_option(table);
+    seq(table, 8, 2, 7);
+    length
+}
+
+// S <- U S T / T; T <- 'a'; U <- 'x'
+pub(crate) fn behind_a_byte(table: &mut Table) -> usize {
+    let length = behind_a_rule(table);
+    root(table, 2, 4);
+    length
+}
+
 // S <- 'a'*
 pub(crate) fn letters(table: &mut Table) -> usize {
     let length = head(table, 2, 1);

@@ -100,29 +100,37 @@ fn chains_of_nodes(maker: &mut Maker) {
     }
 }
 
-/// A long chain of rules at every position, none of which is ever done: as
-/// many uses are live as visits can be open.
+/// A long chain of rules at every position, none of which is ever done. Where
+/// all of them grow, as many uses are live as visits can be open.
 fn many_live_uses(maker: &mut Maker) {
     for rules in [2, 3, 8, 62, 63, 64] {
-        let mut sheet = Sheet::new();
-        let a = sheet.byte(b'a');
-        let uses: Vec<u16> = (0..rules).map(|rule| sheet.rule(rule)).collect();
-        for &next in &uses[1..] {
-            sheet.root(next);
-        }
-        // The last rule starts with itself, then goes on to rule 0.
-        let grown = sheet.sequence(uses[usize::from(rules) - 1], a);
-        let on = sheet.sequence(a, uses[0]);
-        let last = sheet.first_of(&[grown, on, a]);
-        sheet.root(last);
-        maker.table(&sheet.bytes());
-        maker.report();
-        for length in [0, 1, 2, 5, 8, 100] {
-            maker.line(&vec![b'a'; length]);
-            let allowance = maker.affordable(1_500);
-            around_a_refusal(maker, length % 2 == 0, allowance);
+        for all_grow in [false, true] {
+            maker.table(&chain_at_every_position(rules, all_grow).bytes());
+            maker.report();
+            for length in [0, 1, 2, 5, 8, 100] {
+                maker.line(&vec![b'a'; length]);
+                let allowance = maker.affordable(1_500);
+                around_a_refusal(maker, length % 2 == 0, allowance);
+            }
         }
     }
+}
+
+/// Each rule is the next; the last starts with itself, or with rule 0 so that all
+/// grow, and goes on to rule 0.
+fn chain_at_every_position(rules: u16, all_grow: bool) -> Sheet {
+    let mut sheet = Sheet::new();
+    let a = sheet.byte(b'a');
+    let uses: Vec<u16> = (0..rules).map(|rule| sheet.rule(rule)).collect();
+    for &next in &uses[1..] {
+        sheet.root(next);
+    }
+    let first = if all_grow { 0 } else { rules - 1 };
+    let grown = sheet.sequence(uses[usize::from(first)], a);
+    let on = sheet.sequence(a, uses[0]);
+    let last = sheet.first_of(&[grown, on, a]);
+    sheet.root(last);
+    sheet
 }
 
 /// Rule 0 reaches the last rule through all others, or not at all.
@@ -232,6 +240,23 @@ mod tests {
             assert!(!free(None));
             assert!((0..rules - 1).all(|end| free(Some(end))));
         }
+    }
+
+    #[test]
+    fn one_rule_of_a_chain_grows_or_all_do() {
+        for rules in [2, 62, 64] {
+            let growing = |all| {
+                let sheet = chain_at_every_position(rules, all);
+                independent::report(&sheet.bytes()).how_many
+            };
+            assert_eq!((growing(false), growing(true)), (1, rules.into()));
+        }
+        let live = |all_grow| {
+            let table = chain_at_every_position(64, all_grow).bytes();
+            let searches = independent::searches(&table, &[b'a'; 100], 1_500);
+            searches.expect("an accepted table").most_live
+        };
+        assert!(live(false) < 10 && live(true) > 490);
     }
 
     /// T at position p is open as number pads + 3p + 1, and under it come a

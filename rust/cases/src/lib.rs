@@ -10,6 +10,7 @@ mod deep;
 mod desk;
 mod formed;
 mod furthest;
+mod growing;
 mod maker;
 mod nothing;
 pub mod program;
@@ -22,7 +23,7 @@ mod worked;
 
 pub use command::{decode, Command, Lending};
 pub use desk::{run, Desk, Read, Readers};
-pub use maker::{Cases, Furthest, Tables, Tally};
+pub use maker::{Cases, Furthest, Growth, Tables, Tally};
 pub use random::Random;
 pub use textbook::dear_sums;
 pub use worked::text as worked_text;
@@ -44,6 +45,7 @@ pub fn make(seed: u64) -> Cases {
     deep::add(&mut maker);
     nothing::add(&mut maker);
     furthest::add(&mut maker);
+    growing::add(&mut maker);
     formed::add(&mut maker);
     // Random sheets fill what is left.
     soup::add(&mut maker, COMMANDS);
@@ -74,6 +76,7 @@ mod tests {
             records::add,
             deep::add,
             furthest::add,
+            growing::add,
             formed::add,
         ] {
             assert_eq!(loops(add), 0);

@@ -3,15 +3,17 @@
 
 use std::process::ExitCode;
 
-use cases::{make, Furthest, Tally, SEED};
+use cases::{make, Furthest, Growth, Tally, SEED};
 
 /// Fewer than this of any code are too few to compare by.
 const LEAST_OF_A_CODE: u64 = 50;
 const LEAST_COMMANDS: u64 = 20_000;
 /// Of tables free though a rule is left-recursive, and not free though rule 0 is
-/// not; of those refused for a repetition of nothing, and those close to it.
+/// not, or though another is not; of those refused for a repetition of nothing,
+/// and those close to it.
 const LEAST_TABLES: u64 = 200;
-/// Of each sort of readings by how far ranges were asked.
+/// Of each sort of readings by how far ranges were asked, and by what they would
+/// be if every rule became live.
 const LEAST_READINGS: u64 = 100;
 
 fn main() -> ExitCode {
@@ -58,8 +60,12 @@ fn print_counts(tally: &Tally) {
     eprintln!("tables free though they have one {}", tables.unreached);
     eprintln!("tables whose rule 0 reaches one {}", tables.reached);
     eprintln!("tables whose rule 0 is one {}", tables.itself);
+    eprintln!("of these two with another rule {}", tables.mixed);
     for (sort, count) in sorts_of_readings(&tally.furthest) {
         eprintln!("readings with furthest {sort} {count}");
+    }
+    for (sort, count) in sorts_by_growth(&tally.growth) {
+        eprintln!("readings, not free, {sort} {count}");
     }
     eprintln!("commands {}", tally.commands);
 }
@@ -77,15 +83,29 @@ fn sorts_of_readings(furthest: &Furthest) -> [(&'static str, u64); 8] {
     ]
 }
 
+/// Beside a reader by which every rule becomes live.
+fn sorts_by_growth(growth: &Growth) -> [(&'static str, u64); 6] {
+    [
+        ("as many visits", growth.as_many),
+        ("fewer visits", growth.fewer),
+        ("EFFORT no more", growth.effort_no_more),
+        ("DEEP instead of EFFORT", growth.deep_instead),
+        ("EFFORT elsewhere", growth.effort_elsewhere),
+        ("DEEP after fewer visits", growth.deep_sooner),
+    ]
+}
+
 fn enough(tally: &Tally) -> bool {
     let tables = &tally.tables;
     let sorts = [
         tables.unreached,
         tables.reached,
+        tables.mixed,
         tables.repeating_nothing,
         tables.close_to_it,
     ];
-    let readings = sorts_of_readings(&tally.furthest);
+    let mut readings = sorts_of_readings(&tally.furthest).to_vec();
+    readings.extend(sorts_by_growth(&tally.growth));
     tally.commands >= LEAST_COMMANDS
         && tally.codes.iter().all(|&count| count >= LEAST_OF_A_CODE)
         && sorts.iter().all(|&count| count >= LEAST_TABLES)

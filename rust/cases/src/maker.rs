@@ -3,7 +3,7 @@
 use std::cmp::Ordering;
 use std::collections::HashSet;
 
-use independent::{DEEP, EFFORT, FAIL, LOOP, READ, REST};
+use independent::{Live, DEEP, EFFORT, FAIL, LOOP, READ, REST, ROOM};
 
 use crate::command::{Command, Lending};
 use crate::desk::{print, Desk, Readers};
@@ -36,6 +36,44 @@ pub struct Tally {
     pub tables: Tables,
     /// Readings by how far ranges were asked.
     pub furthest: Furthest,
+    /// Readings by what they would be if every rule became live.
+    pub growth: Growth,
+}
+
+/// How many readings there are of each sort, by tables that aren't free. The
+/// other answer is that of a reader by which every rule becomes live.
+#[derive(Clone, Default)]
+pub struct Growth {
+    /// Neither is refused for effort or depth, and both make as many visits.
+    pub as_many: u64,
+    /// The same, and the other makes more.
+    pub fewer: u64,
+    /// The other gives EFFORT, and this one neither EFFORT nor DEEP.
+    pub effort_no_more: u64,
+    /// The other gives EFFORT, and this one DEEP.
+    pub deep_instead: u64,
+    /// Both give EFFORT, at another place or with another furthest range.
+    pub effort_elsewhere: u64,
+    /// Both give DEEP, this one after fewer visits.
+    pub deep_sooner: u64,
+}
+
+impl Growth {
+    fn count(&mut self, numbers: &[u64], other: [u64; 6]) {
+        let (code, place, visits, furthest) = (numbers[0], numbers[1], numbers[3], numbers[5]);
+        let [other_code, other_place, _, other_visits, _, other_furthest] = other;
+        match (code, other_code) {
+            (EFFORT, EFFORT) => {
+                let elsewhere = (place, furthest) != (other_place, other_furthest);
+                self.effort_elsewhere += u64::from(elsewhere);
+            }
+            (DEEP, EFFORT) => self.deep_instead += 1,
+            (DEEP, _) => self.deep_sooner += u64::from(visits < other_visits),
+            (_, EFFORT) => self.effort_no_more += 1,
+            _ if visits < other_visits => self.fewer += 1,
+            _ => self.as_many += 1,
+        }
+    }
 }
 
 /// How many readings there are of each sort.
@@ -100,6 +138,8 @@ pub struct Tables {
     pub reached: u64,
     /// Rule 0 is left-recursive.
     pub itself: u64,
+    /// Of the last two those with a rule that is not left-recursive.
+    pub mixed: u64,
 }
 
 impl Tables {
@@ -109,6 +149,8 @@ impl Tables {
             LOOP => self.repeating_nothing += 1,
             READ => {
                 *self.of(report) += 1;
+                let some_only = report.how_many < u64::from(table[5]) * 256 + u64::from(table[6]);
+                self.mixed += u64::from(!report.free && some_only);
                 self.close_to_it += u64::from(is_close_to_repeating_nothing(table));
             }
             _ => {}
@@ -150,9 +192,15 @@ pub struct Trial {
 
 impl Trial {
     pub fn of(table: &[u8], line: &[u8], whole: bool, allowance: u64) -> Trial {
+        Trial::with(Live::LeftRecursive, table, line, whole, allowance)
+    }
+
+    /// The same where these rules become live.
+    fn with(live: Live, table: &[u8], line: &[u8], whole: bool, allowance: u64) -> Trial {
         let mut work = vec![0; needed(table, line, allowance) as usize];
         let mut room = vec![0; FULL_ROOM];
-        let answer = independent::read(table, line, allowance, &mut work, &mut room, whole);
+        let answer =
+            independent::read_with(live, table, line, allowance, &mut work, &mut room, whole);
         let stored = match answer.code {
             READ => 5 + 5 * answer.records as usize,
             _ => 0,
@@ -221,12 +269,35 @@ impl Maker {
             Command::WellFormed { .. } => tally.well_formed[first] += 1,
             _ => tally.codes[first] += 1,
         }
-        if let Command::Read(_) = command {
+        if let Command::Read(lending) = command {
             tally.furthest.count(&numbers, self.desk.line().len());
+            self.count_growth(&numbers, &lending);
         }
         if let Command::Report | Command::Read(_) = command {
             self.count_table();
         }
+    }
+
+    /// Counts a reading of the current table and line beside one by which every
+    /// rule becomes live. Refusals that come before the first visit don't count.
+    fn count_growth(&mut self, numbers: &[u64], lending: &Lending) {
+        let (table, line) = (self.desk.table(), self.desk.line());
+        let was_read = matches!(numbers[0], READ | EFFORT..=ROOM);
+        if !was_read || independent::report(table).free {
+            return;
+        }
+        let (mut work, mut room) = (lending.work(), lending.room());
+        let other = independent::read_with(
+            Live::Every,
+            table,
+            line,
+            lending.allowance,
+            &mut work,
+            &mut room,
+            lending.whole,
+        );
+        let tally = &mut self.cases.tally;
+        tally.growth.count(numbers, other.numbers());
     }
 
     /// Counts the current table, unless it was counted before.
@@ -301,6 +372,11 @@ impl Maker {
     /// What a reading of the current table and line gives, without a command.
     pub fn trial(&self, whole: bool, allowance: u64) -> Trial {
         Trial::of(self.desk.table(), self.desk.line(), whole, allowance)
+    }
+
+    /// The same where these rules become live.
+    pub fn trial_with(&self, live: Live, whole: bool, allowance: u64) -> Trial {
+        Trial::with(live, self.desk.table(), self.desk.line(), whole, allowance)
     }
 
     /// All edges of one reading: allowance, working numbers and room exact,

@@ -98,6 +98,7 @@ pub fn text() -> String {
     lines_of_b(&mut page);
     unused_rules(&mut page);
     other_sheets(&mut page);
+    growing_rules(&mut page);
     doubling_rules(&mut page);
     furthest(&mut page);
     line_length(&mut page);
@@ -122,8 +123,8 @@ fn lines_of_a(page: &mut Page) {
     page.report("A, report", &a);
     page.reading("A on 7+2", &a, b"7+2", prefix(2_500));
     page.reading("A on 7+2, whole", &a, b"7+2", whole(2_500));
-    page.reading("A on 7+2, allowance 22", &a, b"7+2", prefix(22));
-    page.reading("A on 7+2, allowance 21", &a, b"7+2", prefix(21));
+    page.reading("A on 7+2, allowance 19", &a, b"7+2", prefix(19));
+    page.reading("A on 7+2, allowance 18", &a, b"7+2", prefix(18));
     page.reading("A on 7", &a, b"7", prefix(2_500));
     page.reading("A on an empty line", &a, b"", prefix(2_500));
     page.reading("A on +", &a, b"+", prefix(2_500));
@@ -217,6 +218,109 @@ fn difference() -> Sheet {
     sheet.root(root);
     sheet.root(nine);
     sheet
+}
+
+/// Sheets in which some rules are left-recursive and others are not.
+fn growing_rules(page: &mut Page) {
+    rule_0_above(page);
+    indirect(page);
+    hidden(page);
+}
+
+/// Rule 0 is not left-recursive and uses a rule that is, where it stands itself.
+fn rule_0_above(page: &mut Page) {
+    // L <- S '.' / D; S <- S '+' D / D; D <- [0-9]
+    let table = sheet(
+        &[4, 8, 9],
+        &[
+            (2, 1, 0),
+            (2, 2, 0),
+            (1, 46, 46),
+            (3, 0, 2),
+            (4, 3, 1),
+            (1, 43, 43),
+            (3, 5, 1),
+            (3, 0, 6),
+            (4, 7, 1),
+            (1, 48, 57),
+        ],
+    )
+    .bytes();
+    page.report("L <- S '.' / D, report", &table);
+    for line in ["7+2.", "7"] {
+        let name = format!("L <- S '.' / D on {line}");
+        page.reading(&name, &table, line.as_bytes(), prefix(2_500));
+    }
+    for allowance in [23, 22] {
+        let name = format!("L <- S '.' / D on 7+2., allowance {allowance}");
+        page.reading(&name, &table, b"7+2.", prefix(allowance));
+    }
+}
+
+/// Two rules that each begin with the other, and one below them.
+fn indirect(page: &mut Page) {
+    // A <- B 'x' / 'y'; B <- A / D; D <- 'z'
+    let table = sheet(
+        &[4, 7, 8],
+        &[
+            (2, 1, 0),
+            (1, 120, 120),
+            (3, 0, 1),
+            (1, 121, 121),
+            (4, 2, 3),
+            (2, 0, 0),
+            (2, 2, 0),
+            (4, 5, 6),
+            (1, 122, 122),
+        ],
+    )
+    .bytes();
+    page.report("A <- B 'x' / 'y', report", &table);
+    for line in ["yxx", "zx"] {
+        let name = format!("A <- B 'x' / 'y' on {line}");
+        page.reading(&name, &table, line.as_bytes(), prefix(2_500));
+    }
+}
+
+/// A rule behind what may match nothing; in the last sheet it may not.
+fn hidden(page: &mut Page) {
+    let maybe = (4, 4, 5);
+    for (name, sheet) in [
+        ("'x'?", behind(maybe, 6, 6)),
+        ("!'x'", behind((5, 4, 0), 6, 6)),
+        ("'x'*", behind((6, 4, 0), 6, 6)),
+        ("U <- 'x'?", behind(maybe, 2, 6)),
+        ("U <- 'x'", behind(maybe, 2, 4)),
+    ] {
+        let table = sheet.bytes();
+        page.report(&format!("S behind {name}, report"), &table);
+        page.reading(
+            &format!("S behind {name} on aa"),
+            &table,
+            b"aa",
+            prefix(2_500),
+        );
+    }
+}
+
+/// S <- first S T / T; T <- 'a'; U, with node 6 and this root. Nodes 4 and 5 are
+/// 'x' and empty.
+fn behind(node_6: Node, first: u16, root_of_u: u16) -> Sheet {
+    sheet(
+        &[9, 3, root_of_u],
+        &[
+            (2, 0, 0),
+            (2, 1, 0),
+            (2, 2, 0),
+            (1, 97, 97),
+            (1, 120, 120),
+            (0, 0, 0),
+            node_6,
+            (3, 0, 1),
+            (3, first, 7),
+            (4, 8, 1),
+        ],
+    )
 }
 
 /// So many rules, each the next one twice, the last empty.
@@ -374,13 +478,13 @@ fn line_length(page: &mut Page) {
     }
 }
 
-/// A on 7+2 makes 22 visits and stores 25 bytes; the formula then gives
-/// 2,192 working numbers.
+/// A on 7+2 makes 19 visits and stores 25 bytes; the formula then gives
+/// 2,180 working numbers.
 fn exact() -> Asked {
     Asked {
-        numbers: 2_192,
+        numbers: 2_180,
         room: 25,
-        ..prefix(22)
+        ..prefix(19)
     }
 }
 
@@ -395,8 +499,8 @@ fn room(page: &mut Page) {
 fn working_numbers(page: &mut Page) {
     let a = sheet_a().bytes();
     for (name, numbers) in [
-        ("working numbers 2192", 2_192),
-        ("working numbers 2191", 2_191),
+        ("working numbers 2180", 2_180),
+        ("working numbers 2179", 2_179),
         ("no working numbers", 0),
     ] {
         let asked = Asked { numbers, ..exact() };

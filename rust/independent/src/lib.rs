@@ -11,7 +11,7 @@ mod searches;
 mod stored;
 mod table;
 
-pub use reading::{read, searches, Answer};
+pub use reading::{read, read_with, searches, Answer, Live};
 pub use report::{report, Report};
 pub use searches::Searches;
 pub use stored::well_formed;

@@ -4,7 +4,7 @@ use std::collections::HashMap;
 use std::fmt;
 use std::rc::Rc;
 
-use crate::report::is_free;
+use crate::report::report_on;
 use crate::searches::Searches;
 use crate::stored::{store, stored_length};
 use crate::table::{open, Node, Table};
@@ -85,8 +85,38 @@ enum Outcome {
     Match { end: usize, trees: Trees },
 }
 
+/// Which rules become live, and so grow, in a grammar that isn't free.
+#[derive(Clone, Copy, Debug, PartialEq, Eq)]
+pub enum Live {
+    /// The left-recursive ones, as the rules say.
+    LeftRecursive,
+    /// Every one, as the rules said before. Only to compare with.
+    Every,
+}
+
 /// A prefix reading, or a whole-line reading if `whole`.
 pub fn read(
+    table: &[u8],
+    line: &[u8],
+    allowance: u64,
+    work: &mut [u32],
+    room: &mut [u8],
+    whole: bool,
+) -> Answer {
+    read_with(
+        Live::LeftRecursive,
+        table,
+        line,
+        allowance,
+        work,
+        room,
+        whole,
+    )
+}
+
+/// The same where these rules become live.
+pub fn read_with(
+    live: Live,
     table: &[u8],
     line: &[u8],
     allowance: u64,
@@ -115,7 +145,7 @@ pub fn read(
         *number = 0;
     }
 
-    let mut reading = Reading::new(&table, line, allowance);
+    let mut reading = Reading::new(live, &table, line, allowance);
     let outcome = reading.use_rule(0, 0);
     conclude(outcome, &reading, room, whole)
 }
@@ -124,7 +154,7 @@ pub fn read(
 /// is refused for effort or depth; `None` if the table is refused.
 pub fn searches(table: &[u8], line: &[u8], allowance: u64) -> Option<Searches> {
     let table = open(table).ok()?;
-    let mut reading = Reading::new(&table, line, allowance);
+    let mut reading = Reading::new(Live::LeftRecursive, &table, line, allowance);
     let _ = reading.use_rule(0, 0);
     Some(reading.searches)
 }
@@ -183,6 +213,8 @@ struct Reading<'a> {
     line: &'a [u8],
     allowance: u64,
     free: bool,
+    /// All others: the rules that become live and grow.
+    grows: Vec<bool>,
     /// Visits made.
     visits: u64,
     /// Visits open.
@@ -199,12 +231,18 @@ struct Reading<'a> {
 }
 
 impl<'a> Reading<'a> {
-    fn new(table: &'a Table, line: &'a [u8], allowance: u64) -> Reading<'a> {
+    fn new(live: Live, table: &'a Table, line: &'a [u8], allowance: u64) -> Reading<'a> {
+        let report = report_on(table);
+        let grows = |rule: usize| match live {
+            Live::LeftRecursive => report.left_recursive >> rule & 1 == 1,
+            Live::Every => true,
+        };
         Reading {
             table,
             line,
             allowance,
-            free: is_free(table),
+            free: report.free,
+            grows: (0..table.roots.len()).map(grows).collect(),
             visits: 0,
             open: 0,
             furthest: 0,
@@ -311,9 +349,10 @@ impl<'a> Reading<'a> {
         }
     }
 
-    /// A use of a rule at a position.
+    /// A use of a rule at a position. In a free grammar, and where the rule does
+    /// not grow, it visits the root once and looks at nothing that is held.
     fn use_rule(&mut self, rule: usize, position: usize) -> Result<Outcome, Refusal> {
-        if self.free {
+        if self.free || !self.grows[rule] {
             let outcome = self.visit(self.table.roots[rule], position)?;
             return Ok(as_one_tree(rule, position, outcome));
         }
@@ -324,7 +363,8 @@ impl<'a> Reading<'a> {
                 Ok(held.clone())
             }
             None => {
-                self.searches.miss(live);
+                let here = self.held.keys().filter(|(_, at)| *at == position).count();
+                self.searches.miss(live, here as u64);
                 self.grow(rule, position)
             }
         }
@@ -450,11 +490,11 @@ mod tests {
         2, 0, 2, 0, 0, // node 6: rule 2
     ];
 
-    fn visits(line: &[u8], free: bool) -> u64 {
+    fn visits(line: &[u8], free: bool, live: Live) -> u64 {
         let table = open(&B_WITH_A_RULE_UNUSED).expect("an accepted table");
         let mut reading = Reading {
             free,
-            ..Reading::new(&table, line, 100)
+            ..Reading::new(live, &table, line, 100)
         };
         assert!(reading.use_rule(0, 0).is_ok());
         reading.visits
@@ -463,7 +503,11 @@ mod tests {
     /// What the rule that is never used would cost if it counted.
     #[test]
     fn visits_as_a_free_grammar_and_as_another() {
-        assert_eq!((visits(b"1,5", true), visits(b"1,5", false)), (8, 20));
-        assert_eq!((visits(b"1", true), visits(b"1", false)), (7, 20));
+        for (line, free, other, before) in [(b"1,5".as_slice(), 8, 8, 20), (b"1", 7, 8, 20)] {
+            assert_eq!(visits(line, true, Live::LeftRecursive), free);
+            assert_eq!(visits(line, true, Live::Every), free);
+            assert_eq!(visits(line, false, Live::LeftRecursive), other);
+            assert_eq!(visits(line, false, Live::Every), before);
+        }
     }
 }

@@ -52,11 +52,7 @@ pub fn report(table: &[u8]) -> Report {
 }
 
 /// A grammar is free if no rule that rule 0 reaches is left-recursive.
-pub(crate) fn is_free(table: &Table) -> bool {
-    report_on(table).free
-}
-
-fn report_on(table: &Table) -> Report {
+pub(crate) fn report_on(table: &Table) -> Report {
     let empty = nodes_that_may_be_empty(table);
     let reached = reached_rules(table);
     let mut report = Report {

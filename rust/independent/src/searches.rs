@@ -4,8 +4,8 @@
 //! counted because a reader that keeps the live uses in a list and goes
 //! through it takes time for each entry.
 
-/// Sums over the searches of a reading: one for each use of a rule, the
-/// reading's own included.
+/// Sums over the searches of a reading: one for each use of a rule that grows,
+/// the reading's own included. Other rules are not looked for.
 #[derive(Clone, Copy, Debug, Default, PartialEq, Eq)]
 pub struct Searches {
     pub made: u64,
@@ -21,6 +21,9 @@ pub struct Searches {
     pub found_from_oldest: u64,
     /// Entries gone through for uses that are not live: all there are.
     pub in_vain: u64,
+    /// The same from the newest on, no further than the first of an earlier
+    /// position: live uses stand in the order of their positions.
+    pub in_vain_here: u64,
 }
 
 impl Searches {
@@ -32,10 +35,11 @@ impl Searches {
         self.found_from_oldest += older + 1;
     }
 
-    /// A use that is not live.
-    pub(crate) fn miss(&mut self, live: u64) {
+    /// A use that is not live, with so many live at its position.
+    pub(crate) fn miss(&mut self, live: u64, here: u64) {
         self.search(live);
         self.in_vain += live;
+        self.in_vain_here += live.min(here + 1);
     }
 
     fn search(&mut self, live: u64) {

@@ -152,13 +152,13 @@ mod tests {
         let stored = vec![1, 0, 10, 0, 1, 0, 0, 1, 0, 0];
         let read = Answer::Read {
             matched: 1,
-            visits: 16,
+            visits: 14,
             furthest: 2,
             reading: Reading::new(stored),
         };
         assert_eq!(rows(&read, "7+"), "7+\n  ^");
         assert_eq!(read.furthest(), 2);
-        assert_eq!(read.to_string(), "READ 1 16 1");
+        assert_eq!(read.to_string(), "READ 1 14 1");
     }
 
     #[test]

@@ -187,9 +187,9 @@ mod proved {
     #[test]
     fn marks_under_a_line() {
         for (sheet, line, answer, below) in [
-            (sheet_a(), "7+2", "READ 3 22 4", "   ^"),
-            (sheet_a(), "7+2+", "REST 3 24", "   |^"),
-            (sheet_a(), "7+2*9", "REST 3 22", "   ^"),
+            (sheet_a(), "7+2", "READ 3 19 4", "   ^"),
+            (sheet_a(), "7+2+", "REST 3 21", "   |^"),
+            (sheet_a(), "7+2*9", "REST 3 19", "   ^"),
             (sheet_a(), "", "FAIL 0 5", "^"),
             (sheet_b(), "1.5", "REST 1 7", " ^"),
             (sheet_b(), ",5", "FAIL 0 5", "^"),
@@ -218,11 +218,11 @@ mod proved {
     fn marks_of_a_reading_that_is_refused() {
         let table = sheet_a().bytes();
         for (allowance, answer, below) in [
-            (10, "EFFORT 1 10", "^"),
-            (11, "EFFORT 2 11", " ^"),
-            (18, "EFFORT 3 18", "  ^"),
-            (21, "EFFORT 0 21", "   ^"),
-            (22, "READ 3 22 4", "   ^"),
+            (9, "EFFORT 1 9", "^"),
+            (10, "EFFORT 2 10", " ^"),
+            (16, "EFFORT 3 16", "  ^"),
+            (18, "EFFORT 0 18", "   ^"),
+            (19, "READ 3 19 4", "   ^"),
         ] {
             let given = koskorbelu::read_prefix(&table, b"7+2", allowance);
             assert_eq!(given.to_string(), answer);
@@ -232,8 +232,8 @@ mod proved {
         let prefix = koskorbelu::read_prefix(&table, b"7+", 2_500);
         assert_eq!(prefix.marked(b"7+").to_string(), "7+\n  ^");
         let (mut work, mut room) = (vec![0; 3_000], vec![0; 24]);
-        let short = koskorbelu::read_whole_with(&table, b"7+2", 22, &mut work, &mut room);
-        assert_eq!(short.to_string(), "ROOM 3 22");
+        let short = koskorbelu::read_whole_with(&table, b"7+2", 19, &mut work, &mut room);
+        assert_eq!(short.to_string(), "ROOM 3 19");
         assert_eq!(short.marked(b"7+2").to_string(), "7+2\n   ^");
     }
 

@@ -31,6 +31,10 @@ impl Answer {
 
 const MOST_OPEN: u32 = 512;
 
+/// The kind that a use of a left-recursive rule gets in a grammar that isn't
+/// free: it becomes live, and a use of another rule does not.
+const GROWING: u32 = 7;
+
 /// Records and trees are counted up to here, one over what is stored.
 pub(crate) const MANY: u32 = 1_001;
 
@@ -126,6 +130,10 @@ pub fn read(
     for (into, node) in nodes.iter_mut().zip(sheet.nodes) {
         *into = Node::pack(node).0;
     }
+    let masks = masks(&opened);
+    if !masks.free {
+        mark_growing(&mut nodes[..n], masks.left_recursive);
+    }
     let mut reading = Reading {
         sheet,
         nodes: &nodes[..n],
@@ -140,16 +148,29 @@ pub fn read(
         furthest: 0,
         refusal: (0, 0),
     };
-    let outcome = if masks(&opened).free {
+    let outcome = if masks.free {
         reading.kept.fill([0, 0]);
-        reading.use_kept(0, 0, 0)
-    } else {
+        reading.use_once::<true>(0, 0, 0)
+    } else if masks.left_recursive & 1 == 1 {
         reading.grow(0, 0, 0)
+    } else {
+        reading.use_once::<false>(0, 0, 0)
     };
     let visits = allowance - u64::from(reading.left);
     let answer = reading.conclude(outcome, visits, room, whole);
     work.fill(0);
     answer
+}
+
+/// Gives the uses of these rules their kind.
+fn mark_growing(nodes: &mut [u32], left_recursive: u64) {
+    for packed in nodes {
+        let node = Node(*packed);
+        if node.kind() == RULE {
+            let grows = (left_recursive >> node.a() & 1) as u32;
+            *packed += (GROWING - RULE) * grows;
+        }
+    }
 }
 
 fn refused(code: u64, place: u64) -> Answer {
@@ -255,8 +276,8 @@ impl Reading<'_> {
         match node.kind() {
             EMPTY => nothing(position),
             RANGE => self.range(node, position),
-            RULE if FREE => self.use_kept(node.a(), position, open),
-            RULE => self.use_held(node.a(), position, open),
+            RULE => self.use_once::<FREE>(node.a(), position, open),
+            GROWING if !FREE => self.use_held(node.a(), position, open),
             SEQUENCE => {
                 let before = self.visit::<FREE>(node.a(), position, open);
                 if !before.matches() {
@@ -309,23 +330,27 @@ impl Reading<'_> {
         STOP
     }
 
-    /// A use of a rule in a free grammar.
-    fn use_kept(&mut self, rule: u32, position: u32, open: u32) -> Outcome {
+    /// A use of a rule that does not become live, as none does in a free grammar.
+    fn use_once<const FREE: bool>(&mut self, rule: u32, position: u32, open: u32) -> Outcome {
         let root = self.sheet.root(rule as usize);
-        let outcome = self.visit::<true>(root, position, open);
+        let outcome = self.visit::<FREE>(root, position, open);
         if !outcome.matches() {
             return outcome;
         }
         self.planted(rule, position, outcome)
     }
 
-    /// A use of a rule in any other grammar: what is held if it is live.
+    /// A use of a rule that does: what is held if it is live.
     fn use_held(&mut self, rule: u32, position: u32, open: u32) -> Outcome {
         let pair = pair(rule, position);
         // From the newest entry on.
         for &[live, end, trees] in self.live[..self.live_uses].iter().rev() {
             if live == pair {
                 return Outcome { end, trees };
+            }
+            // Positions never fall from older to newer, so no older one is here.
+            if live & 0xFF != position {
+                break;
             }
         }
         self.grow(rule, position, open)

@@ -11,8 +11,8 @@ use Rattle.meaning.specs.Reading.{read}
 use Rattle.reader.specs.Answer.{cleared}
 use Rattle.reader.proofs.Turning.{past-ready, startable, as-cleared, from-in}
 
-is-free-requires : tie.Need-is-free-requires
-is-free-requires c κs =
+judge-requires : tie.Need-judge-requires
+judge-requires c κs =
     let p = c .before .before .before .before .before .pre in
     (laid _ (p .0 .accepted), p .2, omega (arith, p .0 .room))
 
@@ -28,25 +28,25 @@ kept-from-requires c κs = search needs
 clear-requires : tie.Need-clear-requires
 clear-requires c κs =
     let at-entry = c .before .before .before .before .before .before .before .before .before .before in
-    let at-is-free = c .before .before .before .before .is-free in
+    let at-judge = c .before .before .before .before .judge in
     let at-kept-from = c .before .kept-from in
     let r = (at-entry .pre .0) .room in
     let i = (at-entry .pre .1) in
-    let l = at-is-free .ensures .used .same-length in
+    let l = at-judge .ensures .used .same-length in
     let b : 2048 + 4 * (at-entry .args .allowance) ≤ at-entry .args .needed = omega arith in
-    (from-in (at-is-free .result) _ _ _ (at-kept-from .ensures) b, omega arith)
+    (from-in (at-judge .result .free) _ _ _ (at-kept-from .ensures) b, omega arith)
 
 no-cells-requires : tie.Need-no-cells-requires
 no-cells-requires c κs = search needs
 
 start-requires : tie.Need-start-requires
 start-requires c κs =
-    let at-is-free = c .before .before .before .before .before .before .before .before .before .before .before .before .is-free in
+    let at-judge = c .before .before .before .before .before .before .before .before .before .before .before .before .judge in
     let at-entry = c .before .before .before .before .before .before .before .before .before .before .before .before .before .before .before .before .before .before in
     let at-kept-from = c .before .before .before .before .before .before .before .before .before .kept-from in
     let at-clear = c .before .before .before .before .before .before .before .clear in
     let at-no-cells = c .before .before .before .no-cells in
-    startable _ _ _ _ _ (at-is-free .result) _ _ _ _ (at-entry .pre .0) (at-entry .pre .1) (at-is-free .ensures .used .same-length) (at-is-free .ensures .used .rest) (at-kept-from .ensures) (at-clear .ensures) (at-no-cells .ensures .0) (at-is-free .ensures .free) (at-no-cells .ensures .1)
+    startable _ _ _ _ _ (at-judge .result .free) _ _ _ _ (at-entry .pre .0) (at-entry .pre .1) (at-judge .ensures .used .same-length) (at-judge .ensures .used .rest) (at-kept-from .ensures) (at-clear .ensures) (at-no-cells .ensures .0) (at-judge .ensures .free) (at-judge .ensures .left-recursive) (at-no-cells .ensures .1)
 
 finish-requires : tie.Need-finish-requires
 finish-requires c κs = search needs
@@ -56,9 +56,9 @@ clear-requires-2 c κs =
     let at-start = c .before .before .before .before .before .before .before .before .start in
     let at-no-cells = c .before .before .before .before .before .before .before .before .before .before .before .before .no-cells in
     let at-clear = c .before .before .before .before .before .before .before .before .before .before .before .before .before .before .before .before .clear in
-    let at-is-free = c .before .before .before .before .before .before .before .before .before .before .before .before .before .before .before .before .before .before .before .before .before .is-free in
+    let at-judge = c .before .before .before .before .before .before .before .before .before .before .before .before .before .before .before .before .before .before .before .before .before .judge in
     let at-entry = c .before .before .before .before .before .before .before .before .before .before .before .before .before .before .before .before .before .before .before .before .before .before .before .before .before .before .before in
-    let l = (at-start .kept .1 .1 .0 ∙ at-no-cells .kept .0 ∙ at-clear .kept .0 ∙ at-is-free .kept .1 .0) in
+    let l = (at-start .kept .1 .1 .0 ∙ at-no-cells .kept .0 ∙ at-clear .kept .0 ∙ at-judge .kept .1 .0) in
     let r = (at-entry .pre .0) .room in
     let i = (at-entry .pre .1) in
     (omega arith, omega arith)
@@ -69,8 +69,8 @@ same-length c =
     let at-start = c .before .before .before .before .before .before .before .before .before .before .before .start in
     let at-no-cells = c .before .before .before .before .before .before .before .before .before .before .before .before .before .before .before .no-cells in
     let at-clear = c .before .before .before .before .before .before .before .before .before .before .before .before .before .before .before .before .before .before .before .clear in
-    let at-is-free = c .before .before .before .before .before .before .before .before .before .before .before .before .before .before .before .before .before .before .before .before .before .before .before .before .is-free in
-    at-clear2 .kept .0 ∙ (at-start .kept .1 .1 .0 ∙ at-no-cells .kept .0 ∙ at-clear .kept .0 ∙ at-is-free .kept .1 .0)
+    let at-judge = c .before .before .before .before .before .before .before .before .before .before .before .before .before .before .before .before .before .before .before .before .before .before .before .before .judge in
+    at-clear2 .kept .0 ∙ (at-start .kept .1 .1 .0 ∙ at-no-cells .kept .0 ∙ at-clear .kept .0 ∙ at-judge .kept .1 .0)
 
 same-length-2 : tie.Need-same-length-2
 same-length-2 c = search needs
@@ -83,14 +83,14 @@ returns c =
     let at-clear2 = c .before .before .clear2 in
     let at-no-cells = c .before .before .before .before .before .before .before .before .before .before .before .before .before .before .before .no-cells in
     let at-clear = c .before .before .before .before .before .before .before .before .before .before .before .before .before .before .before .before .before .before .before .clear in
-    let at-is-free = c .before .before .before .before .before .before .before .before .before .before .before .before .before .before .before .before .before .before .before .before .before .before .before .before .is-free in
+    let at-judge = c .before .before .before .before .before .before .before .before .before .before .before .before .before .before .before .before .before .before .before .before .before .before .before .before .judge in
     let at-kept-from = c .before .before .before .before .before .before .before .before .before .before .before .before .before .before .before .before .before .before .before .before .before .kept-from in
     let r = (at-entry .pre .0) .room in
     let i = (at-entry .pre .1) in
     let l = at-finish .ensures (at-entry .args .allowance) (read (grammarOf (at-entry .args .table .now)) (at-entry .args .line .now) (at-entry .args .allowance)) (cleared (at-entry .args .needed) (at-entry .args .work .now)) (at-start .ensures .1) in
-    let long = at-clear2 .kept .0 ∙ (at-start .kept .1 .1 .0 ∙ at-no-cells .kept .0 ∙ at-clear .kept .0 ∙ at-is-free .kept .1 .0) in
-    let used = at-is-free .ensures .used in
-    let until-ready = past-ready _ _ _ _ _ (at-is-free .result) _ _ _ _ (at-entry .pre .0) (at-entry .pre .1) (used .same-length) (used .rest) (at-kept-from .ensures) (at-clear .ensures) (at-no-cells .ensures .0) in
+    let long = at-clear2 .kept .0 ∙ (at-start .kept .1 .1 .0 ∙ at-no-cells .kept .0 ∙ at-clear .kept .0 ∙ at-judge .kept .1 .0) in
+    let used = at-judge .ensures .used in
+    let until-ready = past-ready _ _ _ _ _ (at-judge .result .free) _ _ _ _ (at-entry .pre .0) (at-entry .pre .1) (used .same-length) (used .rest) (at-kept-from .ensures) (at-clear .ensures) (at-no-cells .ensures .0) in
     record {
       returned = l .returned;
       working = as-cleared _ _ _ _ (omega arith) long (at-clear2 .ensures) (λ j h. at-start .ensures .0 .past j (omega arith) ∙ until-ready j h) ∙ l .working;
@@ -101,7 +101,7 @@ pub read-line-spec : {M : Type 1} → statement M
 read-line-spec =
     tie.close
     (tie.spec
-    is-free-requires
+    judge-requires
     mul-kept-from
     add-kept-from
     kept-from-requires

@@ -9,9 +9,6 @@ use Rattle.reader.proofs.start.Tie as tie
 first-node-requires : tie.Need-first-node-requires
 first-node-requires c κs = laid _ (c .before .before .before .pre .fitting .accepted)
 
-cast-first : tie.Need-cast-first
-cast-first c = search needs
-
 flag-requires : tie.Need-flag-requires
 flag-requires c κs = search needs
 
@@ -24,7 +21,7 @@ read-line-requires c κs =
     let at-flag = c .before .before .before .before .before .before .before .flag in
     let at-first-node = c .before .before .before .before .before .before .before .before .first-node in
     let at-no-visits = c .before .before .before .before .before .no-visits in
-    (ready _ _ _ _ _ _ _ _ (at-start .pre) (at-flag .ensures) (at-first-node .ensures .0) (at-no-visits .ensures), some-rule (at-start .pre))
+    (ready _ _ _ _ _ _ _ _ _ (at-start .pre) (at-flag .ensures) (at-first-node .ensures .0) (at-no-visits .ensures), some-rule (at-start .pre))
 
 same-length : tie.Need-same-length
 same-length c = search needs
@@ -39,8 +36,8 @@ returns c =
     let at-no-visits = c .before .before .before .before .before .before .before .before .no-visits in
     let all-back = at-work2 .given .1 .0 (sym (at-read-line .ensures .1)) in
     rw all-back (
-      visiting _ _ _ _ _ _ _ _ (at-start .pre) (at-flag .ensures) (at-first-node .ensures .0) (at-no-visits .ensures) _ _ (at-read-line .ensures .0),
-      tells _ _ _ _ _ _ _ _ (at-start .pre) (at-flag .ensures) (at-first-node .ensures .0) (at-no-visits .ensures) _ _ (at-read-line .ensures .0),
+      visiting _ _ _ _ _ _ _ _ _ (at-start .pre) (at-flag .ensures) (at-first-node .ensures .0) (at-no-visits .ensures) _ _ (at-read-line .ensures .0),
+      tells _ _ _ _ _ _ _ _ _ (at-start .pre) (at-flag .ensures) (at-first-node .ensures .0) (at-no-visits .ensures) _ _ (at-read-line .ensures .0),
     )
 
 pub start-spec : {M : Type 1} → statement M
@@ -48,7 +45,6 @@ start-spec =
     tie.close
     (tie.spec
     first-node-requires
-    cast-first
     flag-requires
     no-visits-requires
     read-line-requires

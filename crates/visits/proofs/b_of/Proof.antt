@@ -1,17 +1,10 @@
 -- `b_of` meets its contract.
-use native.Mathlib.Omega.{arith}
 use borrow.Author.Needs.{needs}
-use Rattle.layout.proofs.Laying.{well-laid}
 use Rattle.visits.proofs.b_of.Statement.{statement}
 use Rattle.visits.proofs.b_of.Tie as tie
 
 element-copy-out-field-b-from : tie.Need-element-copy-out-field-b-from
 element-copy-out-field-b-from c = search needs
-
-cast-field-b-from : tie.Need-cast-field-b-from
-cast-field-b-from c =
-    let s = c .before .before in
-    omega (arith, s .pre .1 .1, well-laid _ (s .pre .0) .few-rules)
 
 field-b-from-requires : tie.Need-field-b-from-requires
 field-b-from-requires c κs = search needs
@@ -27,7 +20,6 @@ b-of-spec =
     tie.close
     (tie.spec
     element-copy-out-field-b-from
-    cast-field-b-from
     field-b-from-requires
     cast-result
     returns)

@@ -8,6 +8,9 @@ use mathlib.Core.Path.{refl, sym, _∙_}
 element-copy-out-allowance : tie.Need-element-copy-out-allowance
 element-copy-out-allowance c = search needs
 
+cast-allowance : tie.Need-cast-allowance
+cast-allowance c = search needs
+
 index-1-made : tie.Need-index-1-made
 index-1-made c = search needs
 
@@ -34,6 +37,7 @@ enter-spec =
     tie.close
     (tie.spec
     element-copy-out-allowance
+    cast-allowance
     index-1-made
     left-of-requires
     returns

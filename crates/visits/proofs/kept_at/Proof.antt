@@ -9,9 +9,6 @@ use Rattle.visits.proofs.Places.{pairs-before}
 element-copy-out-result : tie.Need-element-copy-out-result
 element-copy-out-result c = search needs
 
-cast-result : tie.Need-cast-result
-cast-result c = search needs
-
 mul-result : tie.Need-mul-result
 mul-result c = search needs
 
@@ -41,7 +38,6 @@ kept-at-spec =
     tie.close
     (tie.spec
     element-copy-out-result
-    cast-result
     mul-result
     add-result
     add-result-2

@@ -271,8 +271,8 @@ fn in_visits(sheet: &mut Sheet, visits: u64) -> u16 {
 fn reading_in(visits: u64) -> Sheet {
     let mut sheet = Sheet::new();
     if visits.is_multiple_of(2) {
-        // S <- X / R, where nothing is kept: two attempts, R in neither.
-        let root = in_visits(&mut sheet, visits / 2 - 1);
+        // S <- X / R, where nothing is kept and S does not grow: one visit before X.
+        let root = in_visits(&mut sheet, visits - 1);
         sheet.root(root);
         return not_free(sheet);
     }

@@ -25,6 +25,21 @@ pub fn run(
     Outcome { answer, work, room }
 }
 
+/// The same where these rules become live.
+fn run_with(
+    live: Live,
+    table: &[u8],
+    line: &[u8],
+    allowance: u64,
+    work: usize,
+    whole: bool,
+) -> Outcome {
+    let mut work = vec![MARK; work];
+    let mut room = vec![FILL; 5_010];
+    let answer = read_with(live, table, line, allowance, &mut work, &mut room, whole);
+    Outcome { answer, work, room }
+}
+
 pub fn nothing_changed(outcome: &Outcome) -> bool {
     outcome.work.iter().all(|&number| number == MARK)
         && outcome.room.iter().all(|&byte| byte == FILL)
@@ -44,8 +59,13 @@ pub fn line_was_read(code: u64) -> bool {
 /// Reads with five numbers and five bytes more than needed and checks what
 /// is left in both buffers.
 pub fn reads(table: &[u8], line: &[u8], allowance: u64, whole: bool) -> Outcome {
+    reads_with(Live::LeftRecursive, table, line, allowance, whole)
+}
+
+/// The same where these rules become live.
+pub fn reads_with(live: Live, table: &[u8], line: &[u8], allowance: u64, whole: bool) -> Outcome {
     let needed = formula(table, line, allowance);
-    let outcome = run(table, line, allowance, needed + 5, 5_010, whole);
+    let outcome = run_with(live, table, line, allowance, needed + 5, whole);
     let code = outcome.answer.code;
     let expected = if line_was_read(code) { 0 } else { MARK };
     assert!(outcome.work[..needed]

@@ -19,10 +19,10 @@ fn lines_of_255_and_256_bytes() {
 #[test]
 fn room_one_byte_short() {
     let sheet = sheet_a();
-    let enough = formula(&sheet, b"7+2", 22);
-    assert_eq!(run(&sheet, b"7+2", 22, enough, 25, true).answer.code, READ);
-    let short = run(&sheet, b"7+2", 22, enough, 24, true);
-    assert_eq!(short.answer, answer(ROOM, 3, 3, 22, 4, 3));
+    let enough = formula(&sheet, b"7+2", 19);
+    assert_eq!(run(&sheet, b"7+2", 19, enough, 25, true).answer.code, READ);
+    let short = run(&sheet, b"7+2", 19, enough, 24, true);
+    assert_eq!(short.answer, answer(ROOM, 3, 3, 19, 4, 3));
     assert!(short.room.iter().all(|&byte| byte == FILL));
     assert!(short.work.iter().all(|&number| number == 0));
 }
@@ -30,9 +30,9 @@ fn room_one_byte_short() {
 #[test]
 fn working_numbers_one_short() {
     let sheet = sheet_a();
-    let enough = formula(&sheet, b"7+2", 22);
-    assert_eq!(enough, 2_048 + 88 + 56);
-    let short = run(&sheet, b"7+2", 22, enough - 1, 25, true);
+    let enough = formula(&sheet, b"7+2", 19);
+    assert_eq!(enough, 2_048 + 76 + 56);
+    let short = run(&sheet, b"7+2", 19, enough - 1, 25, true);
     assert_eq!(short.answer, turned_away(WORK, 0));
     assert!(nothing_changed(&short));
 }

@@ -7,7 +7,7 @@ use independent::*;
 #[test]
 fn a_on_seven_plus_two() {
     let outcome = reads(&sheet_a(), b"7+2", 2_500, false);
-    assert_eq!(outcome.answer, answer(READ, 0, 3, 22, 4, 3));
+    assert_eq!(outcome.answer, answer(READ, 0, 3, 19, 4, 3));
     let stored = [
         0x01, 0x00, 0x19, 0x00, 0x04, //
         0x01, 0x00, 0x01, 0x00, 0x00, //
@@ -22,22 +22,22 @@ fn a_on_seven_plus_two() {
 #[test]
 fn a_on_seven_plus_two_at_the_edge_of_the_allowance() {
     assert_eq!(
-        reads(&sheet_a(), b"7+2", 22, false).answer,
-        answer(READ, 0, 3, 22, 4, 3)
+        reads(&sheet_a(), b"7+2", 19, false).answer,
+        answer(READ, 0, 3, 19, 4, 3)
     );
     assert_eq!(
-        reads(&sheet_a(), b"7+2", 21, false).answer,
-        answer(EFFORT, 0, 0, 21, 0, 3)
+        reads(&sheet_a(), b"7+2", 18, false).answer,
+        answer(EFFORT, 0, 0, 18, 0, 3)
     );
 }
 
 #[test]
 fn a_on_short_lines() {
-    assert_eq!(prefix(&sheet_a(), b"7"), answer(READ, 0, 1, 14, 2, 1));
+    assert_eq!(prefix(&sheet_a(), b"7"), answer(READ, 0, 1, 12, 2, 1));
     assert_eq!(prefix(&sheet_a(), b""), answer(FAIL, 0, 0, 5, 0, 0));
     assert_eq!(prefix(&sheet_a(), b"+"), answer(FAIL, 0, 0, 5, 0, 0));
-    assert_eq!(prefix(&sheet_a(), b"7+"), answer(READ, 0, 1, 16, 2, 2));
-    assert_eq!(whole(&sheet_a(), b"7+"), answer(REST, 1, 1, 16, 0, 2));
+    assert_eq!(prefix(&sheet_a(), b"7+"), answer(READ, 0, 1, 14, 2, 2));
+    assert_eq!(whole(&sheet_a(), b"7+"), answer(REST, 1, 1, 14, 0, 2));
 }
 
 #[test]

@@ -2,7 +2,7 @@
 use Prim.Native.Nat.{ℕ, _+_, _*_, _-_}
 use Rattle.visits.proofs.apply.Reads as apply
 use Rattle.visits.proofs.visit.Reads as visit
-use Rattle.visits.proofs.+apply+use_free+use_live+use_rule+visit+visit_choice+visit_not+visit_open+visit_pair+visit_repetition+visit_sequence.Lts-visit as visit-lts
+use Rattle.visits.proofs.+apply+use_fresh+use_live+use_once+use_rule+visit+visit_choice+visit_not+visit_open+visit_pair+visit_repetition+visit_sequence.Lts-visit as visit-lts
 use Rattle.visits.proofs.visit_open.Reads as visit-open
 use Rattle.visits.proofs.answer.Reads as answer-reads
 use Rattle.visits.proofs.enter.Reads as enter-reads
@@ -20,7 +20,7 @@ use Rattle.visits.proofs.Frame.{pair-in, pairs-few}
 use Rattle.visits.proofs.Depth.{left-less}
 use Rattle.visits.proofs.ByKind.{keeps-yes, keeps-no}
 use Rattle.visits.proofs.Opening.{roomy, kept-failure, kept-match, Opened, opened, refused, refused-small, entered-open, Looked}
-use Rattle.visits.proofs.+apply+use_free+use_live+use_rule+visit+visit_choice+visit_not+visit_open+visit_pair+visit_repetition+visit_sequence.Proof.Ranks.{apply-below, visit-at, visit-open-below}
+use Rattle.visits.proofs.+apply+use_fresh+use_live+use_once+use_rule+visit+visit_choice+visit_not+visit_open+visit_pair+visit_repetition+visit_sequence.Proof.Ranks.{apply-below, visit-at, visit-open-below}
 
 abbrev visit-claims : ℕ → visit-lts.Claims
 visit-claims t = (enter-reads.Asked, enter-reads.Learnt, pos-of-reads.Asked, pos-of-reads.Learnt, answer-reads.Asked, answer-reads.Learnt, visit-open-below t, visit-open.Post, kept-word-reads.Asked, kept-word-reads.Learnt, kept-at-reads.Asked, kept-at-reads.Learnt, apply-below t, apply.Post)
@@ -97,7 +97,8 @@ visit-returns : (t : ℕ) → visit-lts.Need-returns (visit-claims t) (visit-at 
 visit-returns t c =
     let entered = c .before .before .before .enter in
     let listed = c .answer .ensures .1 ∙ ap (λ p. entered .result * 4096 + p) (c .before .pos-of .ensures) in
-    (refused _ _ _ _ _ _ (c .before .before .before .before .before .pre .1) (entered .ensures .0) (c .before .before .if1 .taken) _ (c .answer .ensures .0) listed, entered .ensures .1)
+    let ready = c .before .before .before .before .before .pre .1 in
+    (refused _ _ _ _ _ _ ready (entered .ensures .0) (c .before .before .if1 .taken) _ (c .answer .ensures .0) listed (omega (arith, ready .pos-in, ready .fit .short)), entered .ensures .1)
 
 visit-element-copy-out-if2 : (t : ℕ) → visit-lts.Need-element-copy-out-if2 (visit-claims t) (visit-at t) visit.Post
 visit-element-copy-out-if2 t c = search needs

@@ -1,8 +1,8 @@
 -- What is asked of `apply`: its callees may be called, and whichever arm was taken, the node is applied and its answer kept.
 use Prim.Native.Nat.{ℕ, _<_}
 use Rattle.visits.proofs.apply.Reads as apply
-use Rattle.visits.proofs.+apply+use_free+use_live+use_rule+visit+visit_choice+visit_not+visit_open+visit_pair+visit_repetition+visit_sequence.Lts-apply as apply-lts
-use Rattle.visits.proofs.use_free.Reads as use-free
+use Rattle.visits.proofs.+apply+use_fresh+use_live+use_once+use_rule+visit+visit_choice+visit_not+visit_open+visit_pair+visit_repetition+visit_sequence.Lts-apply as apply-lts
+use Rattle.visits.proofs.use_once.Reads as use-once
 use Rattle.visits.proofs.visit_not.Reads as visit-not
 use Rattle.visits.proofs.visit_pair.Reads as visit-pair
 use Rattle.visits.proofs.visit_repetition.Reads as visit-repetition
@@ -23,10 +23,10 @@ use Rattle.visits.specs.Given.{lent, rulesIn, leftIn, posIn}
 use Rattle.visits.specs.Says.{applies, Ends}
 use Rattle.visits.proofs.Steps.{came-at}
 use Rattle.visits.proofs.Ready.{node-known, ready-at, root-in}
-use Rattle.visits.proofs.ByKind.{apply-rule, apply-not, apply-repetition, apply-empty, apply-above, range-ends, uses-free, rule-used, not-child, repetition-child, keeps-yes, keeps-no, above-six}
+use Rattle.visits.proofs.ByKind.{apply-rule, apply-not, apply-repetition, apply-empty, apply-above, range-ends, uses-once, rule-used, not-child, repetition-child, keeps-yes, keeps-no, above-six}
 use Rattle.layout.proofs.Laying.{well-laid}
 use Rattle.visits.proofs.Opening.{roomy, open-applied, plain-opens}
-use Rattle.visits.proofs.+apply+use_free+use_live+use_rule+visit+visit_choice+visit_not+visit_open+visit_pair+visit_repetition+visit_sequence.Proof.Ranks.{apply-at, use-free-below, visit-not-below, visit-pair-below, visit-repetition-below}
+use Rattle.visits.proofs.+apply+use_fresh+use_live+use_once+use_rule+visit+visit_choice+visit_not+visit_open+visit_pair+visit_repetition+visit_sequence.Proof.Ranks.{apply-at, use-once-below, visit-not-below, visit-pair-below, visit-repetition-below}
 
 abbrev apply-claims : ℕ → apply-lts.Claims
 apply-claims t = (
@@ -40,8 +40,8 @@ apply-claims t = (
   visit-range-reads.Learnt,
   a-of-reads.Asked,
   a-of-reads.Learnt,
-  use-free-below t,
-  use-free.Post,
+  use-once-below t,
+  use-once.Post,
   visit-pair-below t,
   visit-pair.Post,
   visit-not-below t,
@@ -77,6 +77,7 @@ apply-met t c =
       record {
         came = came-at _ _ (fit .short) _ _ _ _ (w .2 .ensures .0 ∙ w .1 .ensures) (w .2 .ensures .1) refl refl (apply-empty _ _ fit _ _ _ (ready .node-in) (ready .words) (ready .made-in) (kind ∙ w .0 .keys1) (ready .pos-in));
         cells = omega arith;
+        ahead = λ p. omega (arith, w .2 .ensures .0, w .1 .ensures);
       },
       refl,
     ))
@@ -88,8 +89,9 @@ apply-met t c =
     (λ w. rw (w .5, w .6) (
       record {
         came = apply-rule _ _ fit _ _ _ (ready .node-in) (kind ∙ w .0 .keys3) _ (w .3 .ensures .0)
-            (uses-free _ _ fit _ _ _ (at-start .pre .1 .1 .1 .0 (kind ∙ w .0 .keys3)) _ (let a = w .3 .ensures .0 in let r = rule-used _ _ fit (at-start .args .node) (ready .node-in) (kind ∙ w .0 .keys3) in omega arith) refl (w .4 .ensures .0 .came));
+            (uses-once _ _ fit _ _ _ (inl (at-start .pre .1 .1 .1 .0 (kind ∙ w .0 .keys3))) _ (let a = w .3 .ensures .0 in let r = rule-used _ _ fit (at-start .args .node) (ready .node-in) (kind ∙ w .0 .keys3) in omega arith) refl (w .4 .ensures .0 .came));
         cells = w .4 .ensures .0 .cells;
+        ahead = w .4 .ensures .0 .ahead;
       },
       w .4 .ensures .1,
     ))
@@ -99,12 +101,12 @@ apply-met t c =
     (λ w. rw (w .3, w .4) (w .2 .ensures .0, w .2 .ensures .1))
     (⊎-elim
     (λ w. rw (w .5, w .6) (
-      record { came = apply-not _ _ fit _ _ _ (ready .node-in) (kind ∙ w .0 .keys6) _ (w .3 .ensures .0) (w .4 .ensures .0 .came); cells = w .4 .ensures .0 .cells },
+      record { came = apply-not _ _ fit _ _ _ (ready .node-in) (kind ∙ w .0 .keys6) _ (w .3 .ensures .0) (w .4 .ensures .0 .came); cells = w .4 .ensures .0 .cells; ahead = w .4 .ensures .0 .ahead },
       w .4 .ensures .1,
     ))
     (⊎-elim
     (λ w. rw (w .5, w .6) (
-      record { came = apply-repetition _ _ fit _ _ _ (ready .node-in) (kind ∙ w .0 .keys7) _ (w .3 .ensures .0) (w .4 .ensures .0 .came); cells = w .4 .ensures .0 .cells },
+      record { came = apply-repetition _ _ fit _ _ _ (ready .node-in) (kind ∙ w .0 .keys7) _ (w .3 .ensures .0) (w .4 .ensures .0 .came); cells = w .4 .ensures .0 .cells; ahead = w .4 .ensures .0 .ahead },
       w .4 .ensures .1,
     ))
     (λ w.
@@ -114,6 +116,7 @@ apply-met t c =
       record {
         came = came-at _ _ (fit .short) _ _ _ _ (w .2 .ensures .0 ∙ w .1 .ensures) (w .2 .ensures .1) refl refl (apply-above _ _ fit _ _ _ (ready .node-in) (ready .words) (ready .made-in) (q .0) (kind ∙ q .1) (ready .pos-in));
         cells = omega arith;
+        ahead = λ p. omega (arith, w .2 .ensures .0, w .1 .ensures);
       },
       refl,
     ))))))))
@@ -139,8 +142,8 @@ apply-visit-range-requires t c κs =
 apply-a-of-requires : (t : ℕ) → apply-lts.Need-a-of-requires (apply-claims t) (apply-at t) apply.Post
 apply-a-of-requires t c κs = node-known (c .before .before .before .before .before .pre .1 .0)
 
-apply-use-free-requires : (t : ℕ) → apply-lts.Need-use-free-requires (apply-claims t) (apply-at t) apply.Post
-apply-use-free-requires t c κs =
+apply-use-once-requires : (t : ℕ) → apply-lts.Need-use-once-requires (apply-claims t) (apply-at t) apply.Post
+apply-use-once-requires t c κs =
     let at-start = c .before .before .before .before .before .before in
     let at-a-of = c .a-of in
     let at-kind-of = c .before .before .before .before .kind-of in
@@ -267,7 +270,7 @@ apply-closed M t =
     (apply-pos-of-requires-2 t)
     (apply-visit-range-requires t)
     (apply-a-of-requires t)
-    (apply-use-free-requires t)
+    (apply-use-once-requires t)
     (apply-visit-pair-requires t)
     (apply-visit-pair-requires-2 t)
     (apply-a-of-requires-2 t)

@@ -2,7 +2,7 @@
 use Prim.Native.Nat.{ℕ}
 use Rattle.visits.proofs.visit.Reads as visit
 use Rattle.visits.proofs.visit_repetition.Reads as visit-repetition
-use Rattle.visits.proofs.+apply+use_free+use_live+use_rule+visit+visit_choice+visit_not+visit_open+visit_pair+visit_repetition+visit_sequence.Lts-visit_repetition as visit-repetition-lts
+use Rattle.visits.proofs.+apply+use_fresh+use_live+use_once+use_rule+visit+visit_choice+visit_not+visit_open+visit_pair+visit_repetition+visit_sequence.Lts-visit_repetition as visit-repetition-lts
 use Rattle.visits.proofs.answer.Reads as answer-reads
 use Rattle.visits.proofs.end_of.Reads as end-of-reads
 use Rattle.visits.proofs.joined.Reads as joined-reads
@@ -19,7 +19,7 @@ use Rattle.visits.proofs.Steps.{came-at}
 use Rattle.visits.proofs.Nodes.{rep-stop, rep-none, rep-empty}
 use Rattle.visits.proofs.Depth.{starts-moved, ends-moved}
 use Rattle.visits.proofs.Pairs.{matched, starts-second, repetition-second, repetition-joined, join-ready}
-use Rattle.visits.proofs.+apply+use_free+use_live+use_rule+visit+visit_choice+visit_not+visit_open+visit_pair+visit_repetition+visit_sequence.Proof.Ranks.{visit-below, visit-repetition-at}
+use Rattle.visits.proofs.+apply+use_fresh+use_live+use_once+use_rule+visit+visit_choice+visit_not+visit_open+visit_pair+visit_repetition+visit_sequence.Proof.Ranks.{visit-below, visit-repetition-at}
 
 abbrev visit-repetition-claims : ℕ → visit-repetition-lts.Claims
 visit-repetition-claims t = (pos-of-reads.Asked, pos-of-reads.Learnt, visit-below t, visit.Post, end-of-reads.Asked, end-of-reads.Learnt, answer-reads.Asked, answer-reads.Learnt, moved-reads.Asked, moved-reads.Learnt, list-of-reads.Asked, list-of-reads.Learnt, joined-reads.Asked, joined-reads.Learnt)
@@ -45,7 +45,7 @@ visit-repetition-returns t c =
     let ready = at-start .pre .1 .0 in
     let visiting = reading (lent (at-start .args .table .now .now) (at-start .args .given .now)) (at-start .args .line .now .now) (leftIn (at-start .args .spot)) in
     let first = at-visit .ensures .0 in
-    (record { came = rep-stop _ _ (ready .fit) visiting _ _ (first .came) _ (sym (at-end-of .ensures) ∙ at-if1 .taken); cells = first .cells }, at-visit .ensures .1)
+    (record { came = rep-stop _ _ (ready .fit) visiting _ _ (first .came) _ (sym (at-end-of .ensures) ∙ at-if1 .taken); cells = first .cells; ahead = first .ahead }, at-visit .ensures .1)
 
 visit-repetition-answer-requires : (t : ℕ) → visit-repetition-lts.Need-answer-requires (visit-repetition-claims t) (visit-repetition-at t) visit-repetition.Post
 visit-repetition-answer-requires t c κs = tt
@@ -65,6 +65,7 @@ visit-repetition-returns-2 t c =
         came = came-at _ _ (ready .fit .short) _ _ _ _ (at-answer .ensures .0 ∙ at-pos-of .ensures) (at-answer .ensures .1) refl refl
             (rep-none _ _ (ready .fit) visiting _ _ (first .came) _ (sym (at-end-of .ensures) ∙ at-if2 .taken) (ready .pos-in));
         cells = first .cells;
+        ahead = λ p. omega (arith, at-answer .ensures .0, at-pos-of .ensures);
       },
       at-visit .ensures .1,
     )
@@ -87,6 +88,7 @@ visit-repetition-returns-3 t c =
         came = came-at _ _ (ready .fit .short) _ _ _ _ (at-answer2 .ensures .0 ∙ at-pos-of .ensures) (at-answer2 .ensures .1) refl refl
             (rep-empty _ _ (ready .fit) visiting _ _ (first .came) _ (sym (at-end-of .ensures) ∙ at-if3 .taken ∙ at-pos-of .ensures) (ready .pos-in));
         cells = first .cells;
+        ahead = λ p. omega (arith, at-answer2 .ensures .0, at-pos-of .ensures);
       },
       at-visit .ensures .1,
     )
@@ -106,7 +108,7 @@ visit-repetition-visit-requires-2 t c κs =
     let room = at-start .pre .1 .1 in
     let first = at-visit .ensures .0 in
     let match = matched (at-end-of .ensures) (first .came .end-most) (at-if1 .left) (at-if2 .left) in
-    (omega (arith, at-start .pre .0, at-moved .ensures .left), starts-moved _ _ (at-moved .ensures) _ (starts-second _ _ _ _ _ _ ready first _ (at-end-of .ensures) match _ (room .1)))
+    (omega (arith, at-start .pre .0, at-moved .ensures .left), starts-moved _ _ (at-moved .ensures) _ (starts-second _ _ _ _ _ _ ready first _ (at-end-of .ensures) match _ (room .1) (λ p. omega (arith, first .ahead p, at-end-of .ensures))))
 
 visit-repetition-end-of-requires-2 : (t : ℕ) → visit-repetition-lts.Need-end-of-requires-2 (visit-repetition-claims t) (visit-repetition-at t) visit-repetition.Post
 visit-repetition-end-of-requires-2 t c κs = tt

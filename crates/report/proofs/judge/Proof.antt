@@ -3,8 +3,8 @@ use denote.Ref.{now}
 use native.Mathlib.Omega.{arith}
 use borrow.Author.Needs.{needs}
 use Rattle.report.proofs.Passes.{used}
-use Rattle.report.proofs.is_free.Statement.{statement}
-use Rattle.report.proofs.is_free.Tie as tie
+use Rattle.report.proofs.judge.Statement.{statement}
+use Rattle.report.proofs.judge.Tie as tie
 
 masks-requires : tie.Need-masks-requires
 masks-requires c κs = search needs
@@ -23,7 +23,7 @@ returns c =
     let s = c .before .before .before .before .before .before .before .before .before .before in
     let m = c .before .before .before .before .before .before .masks .ensures in
     let j = c .before .before .none-reached .ensures in
-    record { free = j .free; used = used _ (s .pre .0) (now (s .args .scratch)) (s .pre .2) _ (m .2) _ j }
+    record { left-recursive = m .0; free = j .free; used = used _ (s .pre .0) (now (s .args .scratch)) (s .pre .2) _ (m .2) _ j }
 
-pub is-free-spec : {M : Type 1} → statement M
-is-free-spec = tie.close (tie.spec masks-requires none-reached-requires same-length returns)
+pub judge-spec : {M : Type 1} → statement M
+judge-spec = tie.close (tie.spec masks-requires none-reached-requires same-length returns)

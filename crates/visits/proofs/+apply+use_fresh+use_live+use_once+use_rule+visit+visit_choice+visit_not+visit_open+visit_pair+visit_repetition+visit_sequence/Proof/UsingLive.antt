@@ -1,7 +1,7 @@
 -- What is asked of `use_live`: the first attempt, the loop, and its ways out.
 use Prim.Native.Nat.{ℕ, _<_}
 use Rattle.visits.proofs.use_live.Reads as use-live
-use Rattle.visits.proofs.+apply+use_free+use_live+use_rule+visit+visit_choice+visit_not+visit_open+visit_pair+visit_repetition+visit_sequence.Lts-use_live as use-live-lts
+use Rattle.visits.proofs.+apply+use_fresh+use_live+use_once+use_rule+visit+visit_choice+visit_not+visit_open+visit_pair+visit_repetition+visit_sequence.Lts-use_live as use-live-lts
 use Rattle.visits.proofs.visit.Reads as visit
 use Rattle.visits.proofs.answer.Reads as answer-reads
 use Rattle.visits.proofs.end_of.Reads as end-of-reads
@@ -23,7 +23,7 @@ use Rattle.visits.proofs.Living.{usePut}
 use Rattle.visits.proofs.Ready.{root-is}
 use Rattle.visits.proofs.Depth.{pos-more, starts-live, ends-live}
 use Rattle.visits.proofs.Attempts.{GrowingIn, Use, Tried, Attempt, Planted, Begun, Turned, room-tree, first-attempt, first-ends, first-low, loop-begins, starts-next, next-attempt, next-stops, held-ends, next-low, loop-turns, loop-nearer}
-use Rattle.visits.proofs.+apply+use_free+use_live+use_rule+visit+visit_choice+visit_not+visit_open+visit_pair+visit_repetition+visit_sequence.Proof.Ranks.{use-live-at, visit-below}
+use Rattle.visits.proofs.+apply+use_fresh+use_live+use_once+use_rule+visit+visit_choice+visit_not+visit_open+visit_pair+visit_repetition+visit_sequence.Proof.Ranks.{use-live-at, visit-below}
 
 abbrev use-live-claims : ℕ → use-live-lts.Claims
 use-live-claims t = (root-of-reads.Asked, root-of-reads.Learnt, pos-of-reads.Asked, pos-of-reads.Learnt, live-of-reads.Asked, live-of-reads.Learnt, put-use-reads.Asked, put-use-reads.Learnt, visit-below t, visit.Post, end-of-reads.Asked, end-of-reads.Learnt, list-of-reads.Asked, list-of-reads.Learnt, planted-reads.Asked, planted-reads.Learnt, answer-reads.Asked, answer-reads.Learnt)
@@ -55,6 +55,7 @@ use-live-tried t c =
     let pre = c .before .before .pre .1 in
     record {
       ready = rw (← c .root-of .ensures .0) at (pre .0);
+      there = refl;
       room = pre .1 .0 .0;
       small = pre .1 .0 .1 .0;
       rooted = c .root-of .ensures .0 ∙ root-is _ _ (pre .0 .fit) _ (pre .1 .0 .1 .1);
@@ -174,7 +175,7 @@ use-live-visit-requires : (t : ℕ) → use-live-lts.Need-visit-requires (use-li
 use-live-visit-requires t c κs =
     let tried = use-live-tried t (c .before .before .before .before .before) in
     let at-start = c .before .before .before .before .before .before .before in
-    (omega (arith, at-start .pre .0), rw (pos-more (at-start .args .spot) (omega (arith, tried .room))) (starts-live _ _ _ _ _ _ _ 0 0 (tried .ready) (tried .room) (omega arith) (omega arith) (use-live-put t (c .before))))
+    (omega (arith, at-start .pre .0), rw (pos-more (at-start .args .spot) (omega (arith, tried .room))) (starts-live _ _ _ _ _ _ _ 0 0 (tried .ready) (tried .room) (omega arith) (omega arith) (use-live-put t (c .before)) (tried .small) (λ p n. absurd (n refl))))
 
 use-live-end-of-requires : (t : ℕ) → use-live-lts.Need-end-of-requires (use-live-claims t) (use-live-at t) use-live.Post use-live-Inv-loop use-live-μ-loop
 use-live-end-of-requires t c κs = tt

@@ -2,7 +2,7 @@
 use Prim.Native.Nat.{ℕ}
 use Rattle.visits.proofs.visit.Reads as visit
 use Rattle.visits.proofs.visit_sequence.Reads as visit-sequence
-use Rattle.visits.proofs.+apply+use_free+use_live+use_rule+visit+visit_choice+visit_not+visit_open+visit_pair+visit_repetition+visit_sequence.Lts-visit_sequence as visit-sequence-lts
+use Rattle.visits.proofs.+apply+use_fresh+use_live+use_once+use_rule+visit+visit_choice+visit_not+visit_open+visit_pair+visit_repetition+visit_sequence.Lts-visit_sequence as visit-sequence-lts
 use Rattle.visits.proofs.end_of.Reads as end-of-reads
 use Rattle.visits.proofs.joined.Reads as joined-reads
 use Rattle.visits.proofs.list_of.Reads as list-of-reads
@@ -15,7 +15,7 @@ use Rattle.visits.specs.Says.{reading}
 use Rattle.visits.proofs.Nodes.{seq-first}
 use Rattle.visits.proofs.Depth.{starts-moved, ends-moved}
 use Rattle.visits.proofs.Pairs.{starts-second, sequence-second, sequence-joined, join-ready}
-use Rattle.visits.proofs.+apply+use_free+use_live+use_rule+visit+visit_choice+visit_not+visit_open+visit_pair+visit_repetition+visit_sequence.Proof.Ranks.{visit-below, visit-sequence-at}
+use Rattle.visits.proofs.+apply+use_fresh+use_live+use_once+use_rule+visit+visit_choice+visit_not+visit_open+visit_pair+visit_repetition+visit_sequence.Proof.Ranks.{visit-below, visit-sequence-at}
 
 abbrev visit-sequence-claims : ℕ → visit-sequence-lts.Claims
 visit-sequence-claims t = (visit-below t, visit.Post, end-of-reads.Asked, end-of-reads.Learnt, moved-reads.Asked, moved-reads.Learnt, list-of-reads.Asked, list-of-reads.Learnt, joined-reads.Asked, joined-reads.Learnt)
@@ -38,7 +38,7 @@ visit-sequence-returns t c =
     let ready = at-start .pre .1 .0 in
     let visiting = reading (lent (at-start .args .table .now .now) (at-start .args .given .now)) (at-start .args .line .now .now) (leftIn (at-start .args .spot)) in
     let first = at-visit .ensures .0 in
-    (record { came = seq-first _ _ (ready .fit) visiting _ _ (first .came) _ (omega (arith, at-end-of .ensures, at-if1 .taken)); cells = first .cells }, at-visit .ensures .1)
+    (record { came = seq-first _ _ (ready .fit) visiting _ _ (first .came) _ (omega (arith, at-end-of .ensures, at-if1 .taken)); cells = first .cells; ahead = first .ahead }, at-visit .ensures .1)
 
 visit-sequence-moved-requires : (t : ℕ) → visit-sequence-lts.Need-moved-requires (visit-sequence-claims t) (visit-sequence-at t) visit-sequence.Post
 visit-sequence-moved-requires t c κs = tt
@@ -53,7 +53,7 @@ visit-sequence-visit-requires-2 t c κs =
     let ready = at-start .pre .1 .0 in
     let room = at-start .pre .1 .1 in
     let first = at-visit .ensures .0 in
-    (omega (arith, at-start .pre .0, at-moved .ensures .left), starts-moved _ _ (at-moved .ensures) _ (starts-second _ _ _ _ _ _ ready first _ (at-end-of .ensures) (at-if1 .left) _ (room .1)))
+    (omega (arith, at-start .pre .0, at-moved .ensures .left), starts-moved _ _ (at-moved .ensures) _ (starts-second _ _ _ _ _ _ ready first _ (at-end-of .ensures) (at-if1 .left) _ (room .1) (λ p. omega (arith, first .ahead p, at-end-of .ensures))))
 
 visit-sequence-end-of-requires-2 : (t : ℕ) → visit-sequence-lts.Need-end-of-requires-2 (visit-sequence-claims t) (visit-sequence-at t) visit-sequence.Post
 visit-sequence-end-of-requires-2 t c κs = tt

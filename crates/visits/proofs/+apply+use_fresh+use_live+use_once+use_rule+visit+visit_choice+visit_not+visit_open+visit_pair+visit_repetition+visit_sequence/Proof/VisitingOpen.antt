@@ -4,7 +4,7 @@ use Rattle.meaning.proofs.Answers.{clash}
 use Rattle.visits.proofs.apply.Reads as apply
 use Rattle.visits.proofs.use_rule.Reads as use-rule
 use Rattle.visits.proofs.visit_open.Reads as visit-open
-use Rattle.visits.proofs.+apply+use_free+use_live+use_rule+visit+visit_choice+visit_not+visit_open+visit_pair+visit_repetition+visit_sequence.Lts-visit_open as visit-open-lts
+use Rattle.visits.proofs.+apply+use_fresh+use_live+use_once+use_rule+visit+visit_choice+visit_not+visit_open+visit_pair+visit_repetition+visit_sequence.Lts-visit_open as visit-open-lts
 use Rattle.visits.proofs.visit_pair.Reads as visit-pair
 use Rattle.visits.proofs.a_of.Reads as a-of-reads
 use Rattle.visits.proofs.kind_of.Reads as kind-of-reads
@@ -18,7 +18,7 @@ use Rattle.visits.specs.Given.{lent, rulesIn, posIn}
 use Rattle.visits.proofs.Ready.{node-known, ready-at, root-in}
 use Rattle.visits.proofs.ByKind.{apply-rule, range-ends, rule-used}
 use Rattle.visits.proofs.Opening.{plain-opens}
-use Rattle.visits.proofs.+apply+use_free+use_live+use_rule+visit+visit_choice+visit_not+visit_open+visit_pair+visit_repetition+visit_sequence.Proof.Ranks.{apply-below, use-rule-below, visit-open-at, visit-pair-below}
+use Rattle.visits.proofs.+apply+use_fresh+use_live+use_once+use_rule+visit+visit_choice+visit_not+visit_open+visit_pair+visit_repetition+visit_sequence.Proof.Ranks.{apply-below, use-rule-below, visit-open-at, visit-pair-below}
 
 abbrev visit-open-claims : ℕ → visit-open-lts.Claims
 visit-open-claims t = (kind-of-reads.Asked, kind-of-reads.Learnt, pos-of-reads.Asked, pos-of-reads.Learnt, visit-range-reads.Asked, visit-range-reads.Learnt, a-of-reads.Asked, a-of-reads.Learnt, use-rule-below t, use-rule.Post, visit-pair-below t, visit-pair.Post, apply-below t, apply.Post)
@@ -95,6 +95,7 @@ visit-open-returns-2 t c =
           (record {
             came = apply-rule _ _ (ready .fit) _ _ _ (ready .node-in) (sym (at-kind-of .ensures .0) ∙ at-match .keys2) _ (at-a-of .ensures .0) (at-use-rule .ensures .0 .came);
             cells = at-use-rule .ensures .0 .cells;
+            ahead = at-use-rule .ensures .0 .ahead;
           }),
       at-use-rule .ensures .1,
     )

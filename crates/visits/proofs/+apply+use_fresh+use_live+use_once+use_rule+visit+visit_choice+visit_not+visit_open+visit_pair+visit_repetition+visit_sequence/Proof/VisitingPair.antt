@@ -2,7 +2,7 @@
 use Prim.Native.Nat.{ℕ}
 use Rattle.visits.proofs.visit_choice.Reads as visit-choice
 use Rattle.visits.proofs.visit_pair.Reads as visit-pair
-use Rattle.visits.proofs.+apply+use_free+use_live+use_rule+visit+visit_choice+visit_not+visit_open+visit_pair+visit_repetition+visit_sequence.Lts-visit_pair as visit-pair-lts
+use Rattle.visits.proofs.+apply+use_fresh+use_live+use_once+use_rule+visit+visit_choice+visit_not+visit_open+visit_pair+visit_repetition+visit_sequence.Lts-visit_pair as visit-pair-lts
 use Rattle.visits.proofs.visit_sequence.Reads as visit-sequence
 use Rattle.visits.proofs.a_of.Reads as a-of-reads
 use Rattle.visits.proofs.b_of.Reads as b-of-reads
@@ -13,7 +13,7 @@ use mathlib.Core.Logic.{⊎-elim}
 use mathlib.Core.Path.{sym, _∙_}
 use Rattle.visits.proofs.Ready.{node-known, ready-at}
 use Rattle.visits.proofs.ByKind.{apply-sequence, apply-choice, sequence-children, choice-children}
-use Rattle.visits.proofs.+apply+use_free+use_live+use_rule+visit+visit_choice+visit_not+visit_open+visit_pair+visit_repetition+visit_sequence.Proof.Ranks.{visit-choice-below, visit-pair-at, visit-sequence-below}
+use Rattle.visits.proofs.+apply+use_fresh+use_live+use_once+use_rule+visit+visit_choice+visit_not+visit_open+visit_pair+visit_repetition+visit_sequence.Proof.Ranks.{visit-choice-below, visit-pair-at, visit-sequence-below}
 
 abbrev visit-pair-claims : ℕ → visit-pair-lts.Claims
 visit-pair-claims t = (a-of-reads.Asked, a-of-reads.Learnt, b-of-reads.Asked, b-of-reads.Learnt, kind-of-reads.Asked, kind-of-reads.Learnt, visit-sequence-below t, visit-sequence.Post, visit-choice-below t, visit-choice.Post)
@@ -52,6 +52,7 @@ visit-pair-returns t c =
       record {
         came = apply-sequence _ _ (ready .fit) _ _ _ (ready .node-in) (sym (at-kind-of .ensures .0) ∙ at-if1 .taken) _ _ (at-a-of .ensures .0) (at-b-of .ensures .0) (at-visit-sequence .ensures .0 .came);
         cells = at-visit-sequence .ensures .0 .cells;
+        ahead = at-visit-sequence .ensures .0 .ahead;
       },
       at-visit-sequence .ensures .1,
     )
@@ -83,6 +84,7 @@ visit-pair-returns-2 t c =
       record {
         came = apply-choice _ _ (ready .fit) _ _ _ (ready .node-in) four _ _ (at-a-of .ensures .0) (at-b-of .ensures .0) (at-visit-choice .ensures .0 .came);
         cells = at-visit-choice .ensures .0 .cells;
+        ahead = at-visit-choice .ensures .0 .ahead;
       },
       at-visit-choice .ensures .1,
     )

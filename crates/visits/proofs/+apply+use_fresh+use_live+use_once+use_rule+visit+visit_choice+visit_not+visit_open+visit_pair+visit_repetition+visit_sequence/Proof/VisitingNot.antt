@@ -2,7 +2,7 @@
 use Prim.Native.Nat.{ℕ}
 use Rattle.visits.proofs.visit.Reads as visit
 use Rattle.visits.proofs.visit_not.Reads as visit-not
-use Rattle.visits.proofs.+apply+use_free+use_live+use_rule+visit+visit_choice+visit_not+visit_open+visit_pair+visit_repetition+visit_sequence.Lts-visit_not as visit-not-lts
+use Rattle.visits.proofs.+apply+use_fresh+use_live+use_once+use_rule+visit+visit_choice+visit_not+visit_open+visit_pair+visit_repetition+visit_sequence.Lts-visit_not as visit-not-lts
 use Rattle.visits.proofs.answer.Reads as answer-reads
 use Rattle.visits.proofs.end_of.Reads as end-of-reads
 use Rattle.visits.proofs.pos_of.Reads as pos-of-reads
@@ -13,7 +13,7 @@ use Rattle.visits.specs.Given.{lent, leftIn}
 use Rattle.visits.specs.Says.{reading}
 use Rattle.visits.proofs.Steps.{came-at}
 use Rattle.visits.proofs.Nodes.{not-stop, not-match, not-fail}
-use Rattle.visits.proofs.+apply+use_free+use_live+use_rule+visit+visit_choice+visit_not+visit_open+visit_pair+visit_repetition+visit_sequence.Proof.Ranks.{visit-below, visit-not-at}
+use Rattle.visits.proofs.+apply+use_fresh+use_live+use_once+use_rule+visit+visit_choice+visit_not+visit_open+visit_pair+visit_repetition+visit_sequence.Proof.Ranks.{visit-below, visit-not-at}
 
 abbrev visit-not-claims : ℕ → visit-not-lts.Claims
 visit-not-claims t = (visit-below t, visit.Post, end-of-reads.Asked, end-of-reads.Learnt, pos-of-reads.Asked, pos-of-reads.Learnt, answer-reads.Asked, answer-reads.Learnt)
@@ -36,7 +36,7 @@ visit-not-returns t c =
     let ready = at-start .pre .1 .0 in
     let visiting = reading (lent (at-start .args .table .now .now) (at-start .args .given .now)) (at-start .args .line .now .now) (leftIn (at-start .args .spot)) in
     let first = at-visit .ensures .0 in
-    (record { came = not-stop _ _ (ready .fit) visiting _ _ (first .came) (sym (at-end-of .ensures) ∙ at-if1 .taken); cells = first .cells }, at-visit .ensures .1)
+    (record { came = not-stop _ _ (ready .fit) visiting _ _ (first .came) (sym (at-end-of .ensures) ∙ at-if1 .taken); cells = first .cells; ahead = first .ahead }, at-visit .ensures .1)
 
 visit-not-pos-of-requires : (t : ℕ) → visit-not-lts.Need-pos-of-requires (visit-not-claims t) (visit-not-at t) visit-not.Post
 visit-not-pos-of-requires t c κs = tt
@@ -59,6 +59,7 @@ visit-not-returns-2 t c =
         came = came-at _ _ (ready .fit .short) _ _ _ _ (at-answer .ensures .0 ∙ at-pos-of .ensures) (at-answer .ensures .1) refl refl
             (not-match _ _ (ready .fit) visiting _ _ (first .came) (sym (at-end-of .ensures) ∙ at-if2 .taken) (ready .pos-in));
         cells = first .cells;
+        ahead = λ p. omega (arith, at-answer .ensures .0, at-pos-of .ensures);
       },
       at-visit .ensures .1,
     )
@@ -81,6 +82,7 @@ visit-not-returns-3 t c =
         came = came-at _ _ (ready .fit .short) _ _ _ _ (at-answer2 .ensures .0) (at-answer2 .ensures .1) refl refl
             (not-fail _ _ (ready .fit) visiting _ _ (first .came) (omega (arith, at-end-of .ensures, at-if1 .left, at-if2 .left, first .came .end-most)));
         cells = first .cells;
+        ahead = λ p. omega (arith, at-answer2 .ensures .0, ready .pos-in, ready .fit .short);
       },
       at-visit .ensures .1,
     )

@@ -1,7 +1,7 @@
--- What is asked of `use_free`: the root is visited once, and its tree made.
+-- What is asked of `use_once`: the root is visited once, and its tree made.
 use Prim.Native.Nat.{ℕ, _<_}
-use Rattle.visits.proofs.use_free.Reads as use-free
-use Rattle.visits.proofs.+apply+use_free+use_live+use_rule+visit+visit_choice+visit_not+visit_open+visit_pair+visit_repetition+visit_sequence.Lts-use_free as use-free-lts
+use Rattle.visits.proofs.use_once.Reads as use-once
+use Rattle.visits.proofs.+apply+use_fresh+use_live+use_once+use_rule+visit+visit_choice+visit_not+visit_open+visit_pair+visit_repetition+visit_sequence.Lts-use_once as use-once-lts
 use Rattle.visits.proofs.visit.Reads as visit
 use Rattle.visits.proofs.answer.Reads as answer-reads
 use Rattle.visits.proofs.end_of.Reads as end-of-reads
@@ -19,31 +19,31 @@ use Rattle.visits.specs.Words.{topIn, madeIn, Added}
 use Rattle.visits.specs.Says.{reading, endIn, listIn}
 use Rattle.visits.proofs.Steps.{came-at}
 use Rattle.visits.proofs.Nodes.{use-unmatched, use-tree}
-use Rattle.visits.proofs.+apply+use_free+use_live+use_rule+visit+visit_choice+visit_not+visit_open+visit_pair+visit_repetition+visit_sequence.Proof.Ranks.{use-free-at, visit-below}
+use Rattle.visits.proofs.+apply+use_fresh+use_live+use_once+use_rule+visit+visit_choice+visit_not+visit_open+visit_pair+visit_repetition+visit_sequence.Proof.Ranks.{use-once-at, visit-below}
 
-abbrev use-free-claims : ℕ → use-free-lts.Claims
-use-free-claims t = (pos-of-reads.Asked, pos-of-reads.Learnt, root-of-reads.Asked, root-of-reads.Learnt, visit-below t, visit.Post, end-of-reads.Asked, end-of-reads.Learnt, list-of-reads.Asked, list-of-reads.Learnt, planted-reads.Asked, planted-reads.Learnt, answer-reads.Asked, answer-reads.Learnt)
+abbrev use-once-claims : ℕ → use-once-lts.Claims
+use-once-claims t = (pos-of-reads.Asked, pos-of-reads.Learnt, root-of-reads.Asked, root-of-reads.Learnt, visit-below t, visit.Post, end-of-reads.Asked, end-of-reads.Learnt, list-of-reads.Asked, list-of-reads.Learnt, planted-reads.Asked, planted-reads.Learnt, answer-reads.Asked, answer-reads.Learnt)
 
-use-free-pos-of-requires : (t : ℕ) → use-free-lts.Need-pos-of-requires (use-free-claims t) (use-free-at t) use-free.Post
-use-free-pos-of-requires t c κs = tt
+use-once-pos-of-requires : (t : ℕ) → use-once-lts.Need-pos-of-requires (use-once-claims t) (use-once-at t) use-once.Post
+use-once-pos-of-requires t c κs = tt
 
-use-free-root-of-requires : (t : ℕ) → use-free-lts.Need-root-of-requires (use-free-claims t) (use-free-at t) use-free.Post
-use-free-root-of-requires t c κs =
+use-once-root-of-requires : (t : ℕ) → use-once-lts.Need-root-of-requires (use-once-claims t) (use-once-at t) use-once.Post
+use-once-root-of-requires t c κs =
     let at-start = c .before .before in
     (at-start .pre .1 .0 .fit .laid, at-start .pre .1 .1 .1 .1)
 
-use-free-visit-requires : (t : ℕ) → use-free-lts.Need-visit-requires (use-free-claims t) (use-free-at t) use-free.Post
-use-free-visit-requires t c κs =
+use-once-visit-requires : (t : ℕ) → use-once-lts.Need-visit-requires (use-once-claims t) (use-once-at t) use-once.Post
+use-once-visit-requires t c κs =
     let at-start = c .before .before .before .before in
     let at-root-of = c .before .root-of in
     let ready = at-start .pre .1 .0 in
     (omega (arith, at-start .pre .0), rw (at-root-of .ensures .0) ready)
 
-use-free-end-of-requires : (t : ℕ) → use-free-lts.Need-end-of-requires (use-free-claims t) (use-free-at t) use-free.Post
-use-free-end-of-requires t c κs = tt
+use-once-end-of-requires : (t : ℕ) → use-once-lts.Need-end-of-requires (use-once-claims t) (use-once-at t) use-once.Post
+use-once-end-of-requires t c κs = tt
 
-use-free-returns : (t : ℕ) → use-free-lts.Need-returns (use-free-claims t) (use-free-at t) use-free.Post
-use-free-returns t c =
+use-once-returns : (t : ℕ) → use-once-lts.Need-returns (use-once-claims t) (use-once-at t) use-once.Post
+use-once-returns t c =
     let at-start = c .before .before .before .before .before .before .before in
     let at-visit = c .before .before .visit in
     let at-end-of = c .before .end-of in
@@ -55,16 +55,16 @@ use-free-returns t c =
     let visiting = reading given line (leftIn (at-start .args .spot)) in
     let one = at-visit .ensures .0 .came in
     let stop = let q : 65534 ≤ endIn (at-visit .result) = rw (← at-end-of .ensures) (at-if1 .taken) in q in
-    (record { came = use-unmatched _ _ fit visiting _ _ (rw (at-root-of .ensures .0) at one) _ stop; cells = at-visit .ensures .0 .cells }, at-visit .ensures .1)
+    (record { came = use-unmatched _ _ fit visiting _ _ (rw (at-root-of .ensures .0) at one) _ stop; cells = at-visit .ensures .0 .cells; ahead = at-visit .ensures .0 .ahead }, at-visit .ensures .1)
 
-use-free-slice-aggregate-planted : (t : ℕ) → use-free-lts.Need-slice-aggregate-planted (use-free-claims t) (use-free-at t) use-free.Post
-use-free-slice-aggregate-planted t c = refl
+use-once-slice-aggregate-planted : (t : ℕ) → use-once-lts.Need-slice-aggregate-planted (use-once-claims t) (use-once-at t) use-once.Post
+use-once-slice-aggregate-planted t c = refl
 
-use-free-list-of-requires : (t : ℕ) → use-free-lts.Need-list-of-requires (use-free-claims t) (use-free-at t) use-free.Post
-use-free-list-of-requires t c κs = tt
+use-once-list-of-requires : (t : ℕ) → use-once-lts.Need-list-of-requires (use-once-claims t) (use-once-at t) use-once.Post
+use-once-list-of-requires t c κs = tt
 
-use-free-planted-requires : (t : ℕ) → use-free-lts.Need-planted-requires (use-free-claims t) (use-free-at t) use-free.Post
-use-free-planted-requires t c κs =
+use-once-planted-requires : (t : ℕ) → use-once-lts.Need-planted-requires (use-once-claims t) (use-once-at t) use-once.Post
+use-once-planted-requires t c κs =
     let at-start = c .before .before .before .before .before .before .before .before .before in
     let at-visit = c .before .before .before .before .visit in
     let at-end-of = c .before .before .before .end-of in
@@ -87,11 +87,11 @@ use-free-planted-requires t c κs =
     let al = fit .allowance in
     ((one .words .arena, omega (arith, at-list-of .ensures)), ((omega arith, omega arith), (at-start .pre .1 .1 .1 .0, (omega (arith, at-pos-of .ensures), omega (arith, at-end-of .ensures)))))
 
-use-free-answer-requires : (t : ℕ) → use-free-lts.Need-answer-requires (use-free-claims t) (use-free-at t) use-free.Post
-use-free-answer-requires t c κs = tt
+use-once-answer-requires : (t : ℕ) → use-once-lts.Need-answer-requires (use-once-claims t) (use-once-at t) use-once.Post
+use-once-answer-requires t c κs = tt
 
-use-free-returns-2 : (t : ℕ) → use-free-lts.Need-returns-2 (use-free-claims t) (use-free-at t) use-free.Post
-use-free-returns-2 t c =
+use-once-returns-2 : (t : ℕ) → use-once-lts.Need-returns-2 (use-once-claims t) (use-once-at t) use-once.Post
+use-once-returns-2 t c =
     let at-start = c .before .before .before .before .before .before .before .before .before .before .before in
     let at-visit = c .before .before .before .before .before .before .visit in
     let at-end-of = c .before .before .before .before .before .end-of in
@@ -120,23 +120,24 @@ use-free-returns-2 t c =
         came = came-at _ _ (fit .short) _ _ _ _ (at-answer .ensures .0 ∙ at-end-of .ensures) (at-answer .ensures .1) refl made
             (use-tree _ _ fit visiting _ _ (rw (at-root-of .ensures .0) at one) _ short (omega (arith, few-open)) (omega (arith, one .made-in, ready .top-in)) added);
         cells = omega (arith, added .one);
+        ahead = λ p. omega (arith, at-visit .ensures .0 .ahead p, at-end-of .ensures, at-answer .ensures .0);
       },
       at-visit .ensures .1,
     )
 
 -- All of it.
-pub use-free-closed : (M : Type 1) (t : ℕ) → use-free-lts.Closed (use-free-claims t) (use-free-at t) use-free.Post M
-use-free-closed M t =
-    use-free-lts.spec (use-free-claims t)
-    (use-free-at t)
-    use-free.Post
-    (use-free-pos-of-requires t)
-    (use-free-root-of-requires t)
-    (use-free-visit-requires t)
-    (use-free-end-of-requires t)
-    (use-free-returns t)
-    (use-free-slice-aggregate-planted t)
-    (use-free-list-of-requires t)
-    (use-free-planted-requires t)
-    (use-free-answer-requires t)
-    (use-free-returns-2 t)
+pub use-once-closed : (M : Type 1) (t : ℕ) → use-once-lts.Closed (use-once-claims t) (use-once-at t) use-once.Post M
+use-once-closed M t =
+    use-once-lts.spec (use-once-claims t)
+    (use-once-at t)
+    use-once.Post
+    (use-once-pos-of-requires t)
+    (use-once-root-of-requires t)
+    (use-once-visit-requires t)
+    (use-once-end-of-requires t)
+    (use-once-returns t)
+    (use-once-slice-aggregate-planted t)
+    (use-once-list-of-requires t)
+    (use-once-planted-requires t)
+    (use-once-answer-requires t)
+    (use-once-returns-2 t)

@@ -4,10 +4,12 @@ use borrow.Fn.Kinds.{In}
 use borrow.Fn.PlainCycle.{Measures, is, falls, and}
 use Rattle.visits.proofs.apply.Reads as apply
 use Rattle.visits.proofs.apply.Kinds as apply-kinds
-use Rattle.visits.proofs.use_free.Reads as use-free
-use Rattle.visits.proofs.use_free.Kinds as use-free-kinds
+use Rattle.visits.proofs.use_fresh.Reads as use-fresh
+use Rattle.visits.proofs.use_fresh.Kinds as use-fresh-kinds
 use Rattle.visits.proofs.use_live.Reads as use-live
 use Rattle.visits.proofs.use_live.Kinds as use-live-kinds
+use Rattle.visits.proofs.use_once.Reads as use-once
+use Rattle.visits.proofs.use_once.Kinds as use-once-kinds
 use Rattle.visits.proofs.use_rule.Reads as use-rule
 use Rattle.visits.proofs.use_rule.Kinds as use-rule-kinds
 use Rattle.visits.proofs.visit.Reads as visit
@@ -30,14 +32,17 @@ use Rattle.visits.specs.Given.{leftIn}
 abbrev pub μ-apply : Measures 7 apply-kinds.ps ℕ
 μ-apply κs a = leftIn (a .1 .1 .1 .1 .0) * 6 + 3
 
-abbrev pub μ-use-free : Measures 7 use-free-kinds.ps ℕ
-μ-use-free κs a = leftIn (a .1 .1 .1 .1 .0) * 6 + 1
+abbrev pub μ-use-fresh : Measures 7 use-fresh-kinds.ps ℕ
+μ-use-fresh κs a = leftIn (a .1 .1 .1 .1 .0) * 6 + 2
 
 abbrev pub μ-use-live : Measures 7 use-live-kinds.ps ℕ
 μ-use-live κs a = leftIn (a .1 .1 .1 .1 .0) * 6 + 1
 
+abbrev pub μ-use-once : Measures 7 use-once-kinds.ps ℕ
+μ-use-once κs a = leftIn (a .1 .1 .1 .1 .0) * 6 + 1
+
 abbrev pub μ-use-rule : Measures 7 use-rule-kinds.ps ℕ
-μ-use-rule κs a = leftIn (a .1 .1 .1 .1 .0) * 6 + 2
+μ-use-rule κs a = leftIn (a .1 .1 .1 .1 .0) * 6 + 3
 
 abbrev pub μ-visit : Measures 7 visit-kinds.ps ℕ
 μ-visit κs a = leftIn (a .1 .1 .1 .1 .0) * 6 + 0
@@ -66,12 +71,12 @@ apply-at t = and 7 apply-kinds.ps (is 7 apply-kinds.ps μ-apply t) apply.Pre
 abbrev pub apply-below : ℕ → In 7 apply-kinds.ps
 apply-below t = and 7 apply-kinds.ps (falls 7 apply-kinds.ps _<_ μ-apply t) apply.Pre
 
-abbrev pub use-free-at : ℕ → In 7 use-free-kinds.ps
-use-free-at t = and 7 use-free-kinds.ps (is 7 use-free-kinds.ps μ-use-free t) use-free.Pre
+abbrev pub use-fresh-at : ℕ → In 7 use-fresh-kinds.ps
+use-fresh-at t = and 7 use-fresh-kinds.ps (is 7 use-fresh-kinds.ps μ-use-fresh t) use-fresh.Pre
 
-abbrev pub use-free-below : ℕ → In 7 use-free-kinds.ps
-use-free-below t =
-    and 7 use-free-kinds.ps (falls 7 use-free-kinds.ps _<_ μ-use-free t) use-free.Pre
+abbrev pub use-fresh-below : ℕ → In 7 use-fresh-kinds.ps
+use-fresh-below t =
+    and 7 use-fresh-kinds.ps (falls 7 use-fresh-kinds.ps _<_ μ-use-fresh t) use-fresh.Pre
 
 abbrev pub use-live-at : ℕ → In 7 use-live-kinds.ps
 use-live-at t = and 7 use-live-kinds.ps (is 7 use-live-kinds.ps μ-use-live t) use-live.Pre
@@ -79,6 +84,13 @@ use-live-at t = and 7 use-live-kinds.ps (is 7 use-live-kinds.ps μ-use-live t) u
 abbrev pub use-live-below : ℕ → In 7 use-live-kinds.ps
 use-live-below t =
     and 7 use-live-kinds.ps (falls 7 use-live-kinds.ps _<_ μ-use-live t) use-live.Pre
+
+abbrev pub use-once-at : ℕ → In 7 use-once-kinds.ps
+use-once-at t = and 7 use-once-kinds.ps (is 7 use-once-kinds.ps μ-use-once t) use-once.Pre
+
+abbrev pub use-once-below : ℕ → In 7 use-once-kinds.ps
+use-once-below t =
+    and 7 use-once-kinds.ps (falls 7 use-once-kinds.ps _<_ μ-use-once t) use-once.Pre
 
 abbrev pub use-rule-at : ℕ → In 7 use-rule-kinds.ps
 use-rule-at t = and 7 use-rule-kinds.ps (is 7 use-rule-kinds.ps μ-use-rule t) use-rule.Pre
