@@ -73,16 +73,7 @@ fn free_sheets_are_read_as_before() {
     visits(&b, b"1", 7, 7);
     visits(&b, b",5", 5, 5);
     visits(&sheet_b((0, 3)), b"1,5", 3, 3);
-    let nodes = [
-        (RULE, 1, 0),
-        (RANGE, 44, 44),
-        (SEQ, 1, 0),
-        (SEQ, 0, 2),
-        (CHOICE, 3, 0),
-        (RANGE, 48, 57),
-        (RULE, 2, 0),
-    ];
-    let unused = table(&[4, 5, 6], &nodes);
+    let unused = sheet_b_and(&[], 5, &[]);
     assert!(report(&unused).free);
     visits(&unused, b"1,5", 8, 8);
     visits(&unused, b"1", 7, 7);
@@ -93,16 +84,7 @@ fn free_sheets_are_read_as_before() {
 #[test]
 fn a_sheet_of_one_rule_that_grows_is_read_as_before() {
     visits(&sheet_not(), b"a", 7, 7);
-    // E <- E '+' E / [0-9]
-    let nodes = [
-        (RULE, 0, 0),
-        (RANGE, 43, 43),
-        (SEQ, 1, 0),
-        (SEQ, 0, 2),
-        (RANGE, 48, 57),
-        (CHOICE, 3, 4),
-    ];
-    let sheet = table(&[5], &nodes);
+    let sheet = sheet_e();
     let spans = [(0, 0, 1), (0, 2, 3), (0, 4, 5), (0, 2, 5), (0, 0, 5)];
     assert_eq!(records(&sheet, b"1+2+3"), spans);
     visits(&sheet, b"1", 4 + 6, 10);

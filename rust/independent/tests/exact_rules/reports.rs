@@ -33,21 +33,6 @@ fn sheet_b_has_41_bytes_and_is_free() {
     assert!(report.free);
 }
 
-/// Sheet B with rule 2 <- rule 2, more nodes, this root of rule 1, and more roots.
-fn sheet_b_and(more: &[(u8, u16, u16)], root: u16, roots: &[u16]) -> Vec<u8> {
-    let mut nodes = vec![
-        (RULE, 1, 0),
-        (RANGE, 44, 44),
-        (SEQ, 1, 0),
-        (SEQ, 0, 2),
-        (CHOICE, 3, 0),
-        (RANGE, 48, 57),
-        (RULE, 2, 0),
-    ];
-    nodes.extend(more);
-    table(&[&[4, root, 6], roots].concat(), &nodes)
-}
-
 /// Of B with rule 2 whatever is added: only rule 2 is left-recursive.
 fn only_rule_2(free: bool) -> Report {
     Report {

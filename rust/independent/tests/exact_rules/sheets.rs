@@ -50,6 +50,34 @@ pub fn sheet_b(choice: (u16, u16)) -> Vec<u8> {
     table(&[4, 5], &nodes)
 }
 
+/// Sheet B with rule 2 <- rule 2, more nodes, this root of rule 1, and more roots.
+pub fn sheet_b_and(more: &[(u8, u16, u16)], root: u16, roots: &[u16]) -> Vec<u8> {
+    let mut nodes = vec![
+        (RULE, 1, 0),
+        (RANGE, 44, 44),
+        (SEQ, 1, 0),
+        (SEQ, 0, 2),
+        (CHOICE, 3, 0),
+        (RANGE, 48, 57),
+        (RULE, 2, 0),
+    ];
+    nodes.extend(more);
+    table(&[&[4, root, 6], roots].concat(), &nodes)
+}
+
+/// E <- E '+' E / [0-9]
+pub fn sheet_e() -> Vec<u8> {
+    let nodes = [
+        (RULE, 0, 0),
+        (RANGE, 43, 43),
+        (SEQ, 1, 0),
+        (SEQ, 0, 2),
+        (RANGE, 48, 57),
+        (CHOICE, 3, 4),
+    ];
+    table(&[5], &nodes)
+}
+
 /// S <- !S 'a'
 pub fn sheet_not() -> Vec<u8> {
     let nodes = [(RULE, 0, 0), (NOT, 0, 0), (RANGE, 97, 97), (SEQ, 1, 2)];

@@ -79,16 +79,7 @@ fn not_of_itself() {
 
 #[test]
 fn e_groups_from_the_right() {
-    // E <- E '+' E / [0-9]
-    let nodes = [
-        (RULE, 0, 0),
-        (RANGE, 43, 43),
-        (SEQ, 1, 0),
-        (SEQ, 0, 2),
-        (RANGE, 48, 57),
-        (CHOICE, 3, 4),
-    ];
-    let outcome = reads(&table(&[5], &nodes), b"1+2+3", 2_500, true);
+    let outcome = reads(&sheet_e(), b"1+2+3", 2_500, true);
     assert_eq!(outcome.answer.code, READ);
     assert_eq!(outcome.answer.records, 5);
     let spans: Vec<(u8, u8)> = outcome.room[5..30]
