@@ -1,0 +1,94 @@
+//! The limits of a reading, and the order in which they are tested.
+
+use sheets::{sheet_a, Sheet};
+
+use super::{nothing_lent, prefix, whole, Asked, Page};
+
+pub(super) fn line_length(page: &mut Page) {
+    let mut sheet = Sheet::new();
+    let a = sheet.byte(b'a');
+    let all = sheet.repetition(a);
+    sheet.root(all);
+    for length in [255, 256] {
+        let name = format!("S <- 'a'* on {length} bytes");
+        let line = vec![b'a'; length];
+        page.reading(&name, &sheet.bytes(), &line, whole(2_500));
+    }
+}
+
+/// A on 7+2 makes 19 visits and stores 25 bytes; the formula then gives
+/// 2,180 working numbers.
+fn exact() -> Asked {
+    Asked {
+        numbers: 2_180,
+        room: 25,
+        ..prefix(19)
+    }
+}
+
+pub(super) fn room(page: &mut Page) {
+    let a = sheet_a().bytes();
+    for (name, room) in [("room 25", 25), ("room 24", 24), ("no room", 0)] {
+        let asked = Asked { room, ..exact() };
+        page.reading(&format!("A on 7+2, {name}"), &a, b"7+2", asked);
+    }
+}
+
+pub(super) fn working_numbers(page: &mut Page) {
+    let a = sheet_a().bytes();
+    for (name, numbers) in [
+        ("working numbers 2180", 2_180),
+        ("working numbers 2179", 2_179),
+        ("no working numbers", 0),
+    ] {
+        let asked = Asked { numbers, ..exact() };
+        page.reading(&format!("A on 7+2, {name}"), &a, b"7+2", asked);
+    }
+}
+
+pub(super) fn allowance(page: &mut Page) {
+    let a = sheet_a().bytes();
+    for allowance in [0, 1, 1_000_000, 1_000_001] {
+        let name = format!("A on 7, allowance {allowance}");
+        page.reading(&name, &a, b"7", prefix(allowance));
+    }
+    page.reading("A on 7, allowance 2^64 - 1", &a, b"7", prefix(u64::MAX));
+    let asked = Asked {
+        numbers: 402_104,
+        ..prefix(100_000)
+    };
+    page.reading("A on 7+2, allowance 100000", &a, b"7+2", asked);
+}
+
+/// 500 nots over 'a'*. On so many bytes of 'a' the most visits are open when
+/// the range fails at the line's end: 502 and the bytes.
+pub(super) fn open_visits(page: &mut Page) {
+    let mut sheet = Sheet::new();
+    let a = sheet.byte(b'a');
+    let all = sheet.repetition(a);
+    let top = (0..500).fold(all, |child, _| sheet.not(child));
+    sheet.root(top);
+    let table = sheet.bytes();
+    for open in [511, 512, 513] {
+        let name = format!("{open} open visits");
+        page.reading(&name, &table, &vec![b'a'; open - 502], prefix(550));
+    }
+    page.reading(
+        "513 open visits, allowance 523",
+        &table,
+        &[b'a'; 11],
+        prefix(523),
+    );
+}
+
+pub(super) fn order_of_a_reading(page: &mut Page) {
+    let a = sheet_a().bytes();
+    for (name, line, allowance) in [
+        ("256 bytes, allowance 0", [b'7'; 256].as_slice(), 0),
+        ("7, allowance 0", b"7", 0),
+        ("7, allowance 1", b"7", 1),
+    ] {
+        let name = format!("A on {name}, nothing lent");
+        page.reading(&name, &a, line, nothing_lent(allowance));
+    }
+}
