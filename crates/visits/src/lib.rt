@@ -10,21 +10,41 @@
 // reading of crate meaning ends from there: the answer with its trees, the state handed on, or the refusal with its place.
 // The visit calls itself for children and roots; the open visits left is the number that falls. It passes references to the slices, not the
 // slices, so that a call costs no copy of them; so each function says too that the working numbers it was lent are the ones that it gives back.
+// What a visit is made of stands in files of its own: fields (what the table has for a node), spot (where a visit stands), ranges, live (the live uses),
+// trees, kept (the kept answers). Here are the answer in one number, the counters, and the functions that call one another.
+mod fields;
+mod kept;
+mod live;
+mod ranges;
+mod spot;
+mod trees;
+
+use crate::fields::a_of;
+use crate::fields::b_of;
+use crate::fields::kind_of;
+use crate::fields::root_of;
+use crate::kept::keep;
+use crate::kept::kept_at;
+use crate::kept::kept_word;
+use crate::live::held_by;
+use crate::live::live_use;
+use crate::live::put_use;
+use crate::ranges::visit_range;
+use crate::spot::left_of;
+use crate::spot::live_of;
+use crate::spot::moved;
+use crate::spot::pos_of;
+use crate::trees::joined;
+use crate::trees::planted;
 ghost use mathlib.Core.Path.{_≡_};
 ghost use mathlib.Core.Bool.{true, false};
-ghost use mathlib.Core.Logic.{_≢_, _⊎_};
-ghost use mathlib.Core.List.{List, [], _∷_};
-ghost use Prim.Native.Nat.{ℕ, _+_, _*_, _/_, _%_, _<_, _≤_};
-ghost use lib.ListN.{length, getD};
+ghost use mathlib.Core.List.{[], _∷_};
+ghost use Prim.Native.Nat.{_<_, _≤_};
+ghost use lib.ListN.{length};
 ghost use lib.Seq.{sets};
-ghost use Rattle.meaning.specs.Grammar.{no-trees, tree, _⋈_, fits};
-ghost use Rattle.meaning.specs.Reading.{byte};
-ghost use Rattle.layout.specs.Table.{nodesOf, rulesOf, rootOf, nodeAt, kindOf, aOf, bOf};
-ghost use Rattle.layout.specs.Layout.{Laid};
-ghost use Rattle.cells.specs.Cells.{treesAt};
-ghost use Rattle.visits.specs.Given.{lent, longestLine, mostAllowance, allowanceIn, nodesIn, rulesIn, keepsIn, growsIn, HasNode, HasRule, IsPair, IsOpen, beginning, leftIn, liveIn, posIn, Moved};
-ghost use Rattle.visits.specs.Words.{FAILED, keyOf, topWord, topIn, madeIn, furthestIn, reachedIn, placeIn, Rising, NotLive, HasList, HasLists, HasCell, Adds, Entered, HasPair, Roomy, Kept, Found, FoundUse};
-ghost use Rattle.visits.specs.Says.{reading, uses, grows, applies, opens, here, sequencing, choosing, denying, repeating, rooting, endOf, endIn, listIn, Holds, Ranges, StartsHere, StartsUse, Unkept, Does, DoesVisit};
+ghost use Rattle.visits.specs.Given.{lent, mostAllowance, allowanceIn, nodesIn, rulesIn, keepsIn, growsIn, HasRule, IsPair, IsOpen, beginning, liveIn, posIn};
+ghost use Rattle.visits.specs.Words.{keyOf, topWord, madeIn, furthestIn, NotLive, Entered};
+ghost use Rattle.visits.specs.Says.{reading, uses, grows, applies, opens, here, sequencing, choosing, denying, repeating, rooting, endIn, listIn, StartsHere, StartsUse, Unkept, Does, DoesVisit};
 
 // The ends that are no position.
 pub const FAILED: u32 = 65535;
@@ -72,12 +92,6 @@ const BEGINNING: u64 = 512;
 // A pair of a rule and a position is one number: the position times this, and the rule.
 const RULES: u32 = 64;
 
-fn wide(x: u8) -> u32
-    ensures { λ r. ⌜ (r ≡ x) × (r < 256) ⌝ }
-{
-    x as u32
-}
-
 // An answer by where it ends and its list.
 fn answer(end: u32, list: u32) -> u64
     ensures { λ r. ⌜ (endIn r ≡ end) × (listIn r ≡ list) ⌝ }
@@ -95,111 +109,6 @@ pub fn list_of(answer: u64) -> u32
     ensures { λ r. ⌜ r ≡ listIn answer ⌝ }
 {
     (answer / UPPER) as u32
-}
-
-fn kind_of(given: &[u64; 4], table: &[u8], node: u32) -> u32
-    requires { ⌜ HasNode (lent (now table) (now given)) node ⌝ }
-    ensures { λ r. ⌜ (r ≡ kindOf (now (table .entry)) node) × (r < 7) ⌝ }
-{
-    layout::kind_from(table, given[FIRST_NODE] as usize, node as usize) as u32
-}
-
-fn a_of(given: &[u64; 4], table: &[u8], node: u32) -> u32
-    requires { ⌜ HasNode (lent (now table) (now given)) node ⌝ }
-    ensures { λ r. ⌜ (r ≡ aOf (now (table .entry)) node) × (r < 512) ⌝ }
-{
-    layout::field_a_from(table, given[FIRST_NODE] as usize, node as usize) as u32
-}
-
-fn b_of(given: &[u64; 4], table: &[u8], node: u32) -> u32
-    requires { ⌜ HasNode (lent (now table) (now given)) node ⌝ }
-    ensures { λ r. ⌜ (r ≡ bOf (now (table .entry)) node) × (r < 512) ⌝ }
-{
-    layout::field_b_from(table, given[FIRST_NODE] as usize, node as usize) as u32
-}
-
-fn root_of(table: &[u8], rule: u32) -> u32
-    requires { ⌜ Laid (now table) × (rule < rulesOf (now table)) ⌝ }
-    ensures { λ r. ⌜ (r ≡ rootOf (now (table .entry)) rule) × (r < nodesOf (now (table .entry))) ⌝ }
-{
-    layout::root(table, rule as usize) as u32
-}
-
-// Where a visit stands, in one number: its position, the live uses, and the open visits left.
-fn left_of(spot: u64) -> u32
-    ensures { λ r. ⌜ r ≡ leftIn spot ⌝ }
-{
-    (spot % LIVE) as u32
-}
-
-fn live_of(spot: u64) -> u32
-    ensures { λ r. ⌜ r ≡ liveIn spot ⌝ }
-{
-    (spot % UPPER / LIVE) as u32
-}
-
-fn pos_of(spot: u64) -> u32
-    ensures { λ r. ⌜ r ≡ posIn spot ⌝ }
-{
-    (spot / UPPER) as u32
-}
-
-// The same at another position.
-fn moved(spot: u64, pos: u32) -> u64
-    ensures { λ r. ⌜ Moved spot pos r ⌝ }
-{
-    pos as u64 * UPPER + spot % UPPER
-}
-
-// Where a byte in a range ends at a position, or FAILED.
-fn range_end(line: &[u8], lowest: u32, highest: u32, pos: u32) -> u32
-    requires { ⌜ (pos ≤ length (now line)) × (length (now line) ≤ longestLine) ⌝ }
-    ensures { λ r. ⌜ r ≡ endOf (byte pos (fits (now (line .entry)) lowest highest pos)) ⌝ }
-{
-    let at = pos as usize;
-    if at < line.len() {
-        let found = wide(line[at]);
-        if lowest <= found {
-            if found <= highest {
-                return pos + 1;
-            }
-        }
-    }
-    FAILED
-}
-
-// A range is visited at a position: the furthest one is written only where it rises.
-fn reach(work: &mut &mut [u32], pos: u32)
-    requires { ⌜ 2048 ≤ length (now (now work)) ⌝ }
-    ensures reached { λ _. ⌜ now (now (work .exit)) ≡ reachedIn (now (now (work .entry))) pos ⌝ }
-    ensures lent { λ _. ⌜ (now (work .exit)) .name ≡ (now (work .entry)) .name ⌝ }
-{
-    if work[FURTHEST] < pos {
-        work[FURTHEST] = pos;
-    }
-}
-
-// A range: one byte, and no trees. (Its fields are read before a word is written, so that the compiler need not find the node again.)
-fn visit_range(
-    given: &[u64; 4],
-    table: &[u8],
-    line: &[u8],
-    work: &mut &mut [u32],
-    pos: u32,
-    node: u32,
-) -> u64
-    requires node { ⌜ HasNode (lent (now table) (now given)) node ⌝ }
-    requires inside { ⌜ (pos ≤ length (now line)) × (length (now line) ≤ longestLine) ⌝ }
-    requires words { ⌜ 2048 ≤ length (now (now work)) ⌝ }
-    ensures range { λ r. ⌜ Ranges (lent (now (table .entry)) (now (given .entry))) (now (line .entry)) node pos r ⌝ }
-    ensures reached { λ _. ⌜ now (now (work .exit)) ≡ reachedIn (now (now (work .entry))) pos ⌝ }
-    ensures lent { λ _. ⌜ (now (work .exit)) .name ≡ (now (work .entry)) .name ⌝ }
-{
-    let lowest = a_of(given, table, node);
-    let highest = b_of(given, table, node);
-    reach(work, pos);
-    let end = range_end(line, lowest, highest, pos);
-    answer(end, 0)
 }
 
 // Makes ready for the first visit: no cell is in use, no visit is made, no range was visited.
@@ -224,133 +133,6 @@ pub fn furthest_visited(work: &[u32]) -> u32
     ensures { λ r. ⌜ r ≡ furthestIn (now (work .entry)) ⌝ }
 {
     work[FURTHEST]
-}
-
-// A live use is three words: its pair, and the end and the list of what it holds.
-fn put_use(work: &mut [u32], live: u32, key: u32, end: u32, list: u32)
-    requires { ⌜ (live * 3 + 2 < length (now work)) × (live ≤ 512) ⌝ }
-    ensures { λ _. ⌜ now (work .exit) ≡ sets (now (work .entry)) (live * 3) (key ∷ end ∷ list ∷ []) ⌝ }
-{
-    let at = live as usize * 3;
-    work[at] = key;
-    work[at + 1] = end;
-    work[at + 2] = list;
-}
-
-// The live use of a pair, plus 1, or 0; at most one can fit. The search runs from the newest, and no further than one of an earlier position.
-fn find_use(work: &mut &mut [u32], live: u32, key: u32) -> u32
-    requires few { ⌜ (live * 3 ≤ length (now (now work))) × (live ≤ 513) ⌝ }
-    requires order { ⌜ Rising (now (now work)) live ⌝ }
-    ensures { λ r. ⌜ Found (now (now (work .entry))) live key r × (now (work .exit) ≡ now (work .entry)) ⌝ }
-{
-    if live == 0 {
-        return 0;
-    }
-    let lowest = key - key % RULES;
-    let mut i = live as usize - 1;
-    while work[i * 3] != key {
-        if work[i * 3] < lowest {
-            return 0;
-        }
-        if i == 0 {
-            return 0;
-        }
-        i -= 1;
-    }
-    i as u32 + 1
-}
-
-// The live use of a rule here, plus 1, or 0: a rule that doesn't grow has none.
-fn live_use(given: &[u64; 4], work: &mut &mut [u32], spot: u64, rule: u32) -> u32
-    requires few { ⌜ (liveIn spot * 3 ≤ length (now (now work))) × ((liveIn spot ≤ 513) × ((rule < 64) × (posIn spot ≤ longestLine))) ⌝ }
-    requires order { ⌜ Rising (now (now work)) (liveIn spot) ⌝ }
-    ensures { λ r. ⌜ FoundUse (lent [] (now (given .entry))) (now (now (work .entry))) spot rule r × (now (work .exit) ≡ now (work .entry)) ⌝ }
-{
-    if !bits::has_rule(given[GROWING], rule as usize) {
-        return 0;
-    }
-    find_use(work, live_of(spot), pos_of(spot) * RULES + rule)
-}
-
-// What a live use holds, as an answer: list 0 is a failure.
-fn held_by(work: &mut &mut [u32], live: u32) -> u64
-    requires { ⌜ (live * 3 + 2 < length (now (now work))) × (live ≤ 512) ⌝ }
-    ensures { λ r. ⌜ Holds (now (now (work .entry))) live r × (now (work .exit) ≡ now (work .entry)) ⌝ }
-{
-    let at = live as usize * 3;
-    let list = work[at + 2];
-    if list == 0 {
-        return answer(FAILED, 0);
-    }
-    let end = work[at + 1];
-    answer(end, list)
-}
-
-// The answer that ends there with two lists of trees joined.
-fn joined(work: &mut [u32], end: u32, left: u32, right: u32) -> u64
-    requires lists { ⌜ HasLists (now work) left right ⌝ }
-    requires cell { ⌜ HasCell (now work) ⌝ }
-    ensures { λ r. ⌜ (endIn r ≡ end) × Adds (now (work .entry)) (now (work .exit)) (listIn r) (treesAt (now (work .entry)) left ⋈ treesAt (now (work .entry)) right) ⌝ }
-{
-    let top = work[TOP];
-    let held = cells::join(work, top, left, right);
-    work[TOP] = held.top;
-    answer(end, held.list)
-}
-
-// The list of one tree: a rule, where it starts and ends, its children.
-fn planted(work: &mut [u32], rule: u32, start: u32, end: u32, children: u32) -> u32
-    requires lists { ⌜ HasList (now work) children ⌝ }
-    requires cell { ⌜ HasCell (now work) ⌝ }
-    requires small { ⌜ (rule < 64) × ((start < 4096) × (end < 4096)) ⌝ }
-    ensures added { λ r. ⌜ Adds (now (work .entry)) (now (work .exit)) r (tree rule start end (treesAt (now (work .entry)) children) no-trees) ⌝ }
-    ensures list { λ r. ⌜ (r ≡ topIn (now (work .entry)) + 1) × (topIn (now (work .exit)) ≡ r) ⌝ }
-{
-    let top = work[TOP];
-    cells::put_tree(work, top, rule, start, end, children);
-    work[TOP] = top + 1;
-    top + 1
-}
-
-// Where the answer of a pair is kept.
-fn kept_at(given: &[u64; 4], line: &[u8], node: u32, pos: u32) -> usize
-    requires { ⌜ HasPair (lent [] (now given)) (now line) node pos ⌝ }
-    ensures { λ r. ⌜ r ≡ placeIn (lent [] (now (given .entry))) (now (line .entry)) node pos ⌝ }
-{
-    CELLS + 4 * given[ALLOWANCE] as usize + (node as usize * (line.len() + 1) + pos as usize) * 2
-}
-
-// The word that is kept for a pair, 0 where nothing is.
-fn kept_word(given: &[u64; 4], line: &[u8], work: &mut &mut [u32], node: u32, pos: u32) -> u32
-    requires { ⌜ Roomy (lent [] (now given)) (now line) (now (now work)) node pos ⌝ }
-    ensures { λ r. ⌜ (r ≡ getD (now (now (work .entry))) (placeIn (lent [] (now (given .entry))) (now (line .entry)) node pos) 0) × (now (work .exit) ≡ now (work .entry)) ⌝ }
-{
-    let at = kept_at(given, line, node, pos);
-    work[at]
-}
-
-// Keeps the answer of a finished pair; one that was refused has none.
-fn keep(given: &[u64; 4], line: &[u8], work: &mut [u32], node: u32, pos: u32, end: u32, list: u32)
-    requires { ⌜ Roomy (lent [] (now given)) (now line) (now work) node pos × (end ≤ FAILED) ⌝ }
-    ensures { λ _. ⌜ Kept (lent [] (now (given .entry))) (now (line .entry)) (now (work .entry)) (now (work .exit)) node pos end list ⌝ }
-{
-    if end == STOPPED {
-        return;
-    }
-    let at = kept_at(given, line, node, pos);
-    if end == FAILED {
-        put_kept(work, at, 1, 0);
-        return;
-    }
-    put_kept(work, at, end + 2, list);
-}
-
-fn put_kept(work: &mut [u32], at: usize, word: u32, list: u32)
-    requires { ⌜ at + 1 < length (now work) ⌝ }
-    ensures { λ _. ⌜ now (work .exit) ≡ sets (now (work .entry)) at (word ∷ list ∷ []) ⌝ }
-{
-    work[at] = word;
-    work[at + 1] = list;
 }
 
 // Enters a visit: the code by which it is refused, EFFORT before DEEP, or 0, and then it is counted.

@@ -6,14 +6,14 @@ use Rattle.visits.proofs.use_once.Reads as use-once
 use Rattle.visits.proofs.visit_not.Reads as visit-not
 use Rattle.visits.proofs.visit_pair.Reads as visit-pair
 use Rattle.visits.proofs.visit_repetition.Reads as visit-repetition
-use Rattle.visits.proofs.a_of.Reads as a-of-reads
+use Rattle.visits.proofs.fields.a_of.Reads as a-of-reads
 use Rattle.visits.proofs.answer.Reads as answer-reads
 use Rattle.visits.proofs.end_of.Reads as end-of-reads
-use Rattle.visits.proofs.keep.Reads as keep-reads
-use Rattle.visits.proofs.kind_of.Reads as kind-of-reads
+use Rattle.visits.proofs.kept.keep.Reads as keep-reads
+use Rattle.visits.proofs.fields.kind_of.Reads as kind-of-reads
 use Rattle.visits.proofs.list_of.Reads as list-of-reads
-use Rattle.visits.proofs.pos_of.Reads as pos-of-reads
-use Rattle.visits.proofs.visit_range.Reads as visit-range-reads
+use Rattle.visits.proofs.spot.pos_of.Reads as pos-of-reads
+use Rattle.visits.proofs.ranges.visit_range.Reads as visit-range-reads
 use Prim.Native.Nat.{_-_}
 use borrow.Author.Needs.{needs}
 use native.Mathlib.Omega.{arith}

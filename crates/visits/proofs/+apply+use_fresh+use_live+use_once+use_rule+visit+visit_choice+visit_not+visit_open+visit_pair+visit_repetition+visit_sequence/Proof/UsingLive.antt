@@ -6,11 +6,11 @@ use Rattle.visits.proofs.visit.Reads as visit
 use Rattle.visits.proofs.answer.Reads as answer-reads
 use Rattle.visits.proofs.end_of.Reads as end-of-reads
 use Rattle.visits.proofs.list_of.Reads as list-of-reads
-use Rattle.visits.proofs.live_of.Reads as live-of-reads
-use Rattle.visits.proofs.planted.Reads as planted-reads
-use Rattle.visits.proofs.pos_of.Reads as pos-of-reads
-use Rattle.visits.proofs.put_use.Reads as put-use-reads
-use Rattle.visits.proofs.root_of.Reads as root-of-reads
+use Rattle.visits.proofs.spot.live_of.Reads as live-of-reads
+use Rattle.visits.proofs.trees.planted.Reads as planted-reads
+use Rattle.visits.proofs.spot.pos_of.Reads as pos-of-reads
+use Rattle.visits.proofs.live.put_use.Reads as put-use-reads
+use Rattle.visits.proofs.fields.root_of.Reads as root-of-reads
 use Prim.Native.Nat.{_*_, _-_}
 use native.Mathlib.Omega.{arith}
 use lib.ListN.{getD}

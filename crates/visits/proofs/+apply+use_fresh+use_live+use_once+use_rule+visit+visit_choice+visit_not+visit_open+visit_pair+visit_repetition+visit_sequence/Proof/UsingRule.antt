@@ -3,8 +3,8 @@ use Prim.Native.Nat.{ℕ, _<_}
 use Rattle.visits.proofs.use_fresh.Reads as use-fresh
 use Rattle.visits.proofs.use_rule.Reads as use-rule
 use Rattle.visits.proofs.+apply+use_fresh+use_live+use_once+use_rule+visit+visit_choice+visit_not+visit_open+visit_pair+visit_repetition+visit_sequence.Lts-use_rule as use-rule-lts
-use Rattle.visits.proofs.held_by.Reads as held-by-reads
-use Rattle.visits.proofs.live_use.Reads as live-use-reads
+use Rattle.visits.proofs.live.held_by.Reads as held-by-reads
+use Rattle.visits.proofs.live.live_use.Reads as live-use-reads
 use native.Mathlib.Omega.{arith}
 use mathlib.Core.Bool.{true}
 use mathlib.Core.List.{[]}

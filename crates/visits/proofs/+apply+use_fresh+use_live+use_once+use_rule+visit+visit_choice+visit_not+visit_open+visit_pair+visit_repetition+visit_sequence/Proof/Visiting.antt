@@ -6,9 +6,9 @@ use Rattle.visits.proofs.+apply+use_fresh+use_live+use_once+use_rule+vi
 use Rattle.visits.proofs.visit_open.Reads as visit-open
 use Rattle.visits.proofs.answer.Reads as answer-reads
 use Rattle.visits.proofs.enter.Reads as enter-reads
-use Rattle.visits.proofs.kept_at.Reads as kept-at-reads
-use Rattle.visits.proofs.kept_word.Reads as kept-word-reads
-use Rattle.visits.proofs.pos_of.Reads as pos-of-reads
+use Rattle.visits.proofs.kept.kept_at.Reads as kept-at-reads
+use Rattle.visits.proofs.kept.kept_word.Reads as kept-word-reads
+use Rattle.visits.proofs.spot.pos_of.Reads as pos-of-reads
 use borrow.Author.Needs.{needs}
 use native.Mathlib.Omega.{arith}
 use lib.ListN.{getD}

@@ -5,7 +5,7 @@ use Rattle.visits.proofs.visit_not.Reads as visit-not
 use Rattle.visits.proofs.+apply+use_fresh+use_live+use_once+use_rule+visit+visit_choice+visit_not+visit_open+visit_pair+visit_repetition+visit_sequence.Lts-visit_not as visit-not-lts
 use Rattle.visits.proofs.answer.Reads as answer-reads
 use Rattle.visits.proofs.end_of.Reads as end-of-reads
-use Rattle.visits.proofs.pos_of.Reads as pos-of-reads
+use Rattle.visits.proofs.spot.pos_of.Reads as pos-of-reads
 use Prim.Native.Nat.{_-_}
 use native.Mathlib.Omega.{arith}
 use mathlib.Core.Path.{refl, sym, _∙_}

@@ -6,10 +6,10 @@ use Rattle.visits.proofs.use_rule.Reads as use-rule
 use Rattle.visits.proofs.visit_open.Reads as visit-open
 use Rattle.visits.proofs.+apply+use_fresh+use_live+use_once+use_rule+visit+visit_choice+visit_not+visit_open+visit_pair+visit_repetition+visit_sequence.Lts-visit_open as visit-open-lts
 use Rattle.visits.proofs.visit_pair.Reads as visit-pair
-use Rattle.visits.proofs.a_of.Reads as a-of-reads
-use Rattle.visits.proofs.kind_of.Reads as kind-of-reads
-use Rattle.visits.proofs.pos_of.Reads as pos-of-reads
-use Rattle.visits.proofs.visit_range.Reads as visit-range-reads
+use Rattle.visits.proofs.fields.a_of.Reads as a-of-reads
+use Rattle.visits.proofs.fields.kind_of.Reads as kind-of-reads
+use Rattle.visits.proofs.spot.pos_of.Reads as pos-of-reads
+use Rattle.visits.proofs.ranges.visit_range.Reads as visit-range-reads
 use Prim.Native.Nat.{_-_}
 use native.Mathlib.Omega.{arith}
 use mathlib.Core.Logic.{inl, inr}

@@ -4,9 +4,9 @@ use Rattle.visits.proofs.visit_choice.Reads as visit-choice
 use Rattle.visits.proofs.visit_pair.Reads as visit-pair
 use Rattle.visits.proofs.+apply+use_fresh+use_live+use_once+use_rule+visit+visit_choice+visit_not+visit_open+visit_pair+visit_repetition+visit_sequence.Lts-visit_pair as visit-pair-lts
 use Rattle.visits.proofs.visit_sequence.Reads as visit-sequence
-use Rattle.visits.proofs.a_of.Reads as a-of-reads
-use Rattle.visits.proofs.b_of.Reads as b-of-reads
-use Rattle.visits.proofs.kind_of.Reads as kind-of-reads
+use Rattle.visits.proofs.fields.a_of.Reads as a-of-reads
+use Rattle.visits.proofs.fields.b_of.Reads as b-of-reads
+use Rattle.visits.proofs.fields.kind_of.Reads as kind-of-reads
 use Prim.Native.Nat.{_-_}
 use native.Mathlib.Omega.{arith}
 use mathlib.Core.Logic.{⊎-elim}

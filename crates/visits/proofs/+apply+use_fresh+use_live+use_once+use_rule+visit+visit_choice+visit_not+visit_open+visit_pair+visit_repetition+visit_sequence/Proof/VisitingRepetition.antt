@@ -5,10 +5,10 @@ use Rattle.visits.proofs.visit_repetition.Reads as visit-repetition
 use Rattle.visits.proofs.+apply+use_fresh+use_live+use_once+use_rule+visit+visit_choice+visit_not+visit_open+visit_pair+visit_repetition+visit_sequence.Lts-visit_repetition as visit-repetition-lts
 use Rattle.visits.proofs.answer.Reads as answer-reads
 use Rattle.visits.proofs.end_of.Reads as end-of-reads
-use Rattle.visits.proofs.joined.Reads as joined-reads
+use Rattle.visits.proofs.trees.joined.Reads as joined-reads
 use Rattle.visits.proofs.list_of.Reads as list-of-reads
-use Rattle.visits.proofs.moved.Reads as moved-reads
-use Rattle.visits.proofs.pos_of.Reads as pos-of-reads
+use Rattle.visits.proofs.spot.moved.Reads as moved-reads
+use Rattle.visits.proofs.spot.pos_of.Reads as pos-of-reads
 use Prim.Native.Nat.{_-_}
 use native.Mathlib.Omega.{arith}
 use mathlib.Core.Logic.{_≢_}

@@ -4,9 +4,9 @@ use Rattle.visits.proofs.visit.Reads as visit
 use Rattle.visits.proofs.visit_sequence.Reads as visit-sequence
 use Rattle.visits.proofs.+apply+use_fresh+use_live+use_once+use_rule+visit+visit_choice+visit_not+visit_open+visit_pair+visit_repetition+visit_sequence.Lts-visit_sequence as visit-sequence-lts
 use Rattle.visits.proofs.end_of.Reads as end-of-reads
-use Rattle.visits.proofs.joined.Reads as joined-reads
+use Rattle.visits.proofs.trees.joined.Reads as joined-reads
 use Rattle.visits.proofs.list_of.Reads as list-of-reads
-use Rattle.visits.proofs.moved.Reads as moved-reads
+use Rattle.visits.proofs.spot.moved.Reads as moved-reads
 use Prim.Native.Nat.{_-_}
 use native.Mathlib.Omega.{arith}
 use mathlib.Core.Path.{refl, _∙_}
