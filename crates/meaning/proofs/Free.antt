@@ -56,9 +56,12 @@ module _ (g : Grammar) (line : List ℕ) where
     none-needed : Enough g noRule
     none-needed = record { needed = λ a la reached recursive. absurd (free .none a la reached recursive) }
 
+    -- Of a node that is reached: what the bounded rules answer with nothing live, the plain rules answer.
+    pub becomes-plain : (i x : ℕ) → i < length (g .nodes) → Met g (node g i) → {r : Answer} {n : Amount} → Bounded g line everyRule [] (at (node g i)) x r n → Plain g line (node g i) x r
+    becomes-plain i x li met h = plainly (node-turns g line good noRule none-needed i x li met h .rules)
+
     -- Every node that is reached has a plain answer everywhere.
     pub total : (i x : ℕ) → i < length (g .nodes) → Met g (node g i) → x ≤ length line → (r : Answer) × Plain g line (node g i) x r
     unfolding look
     total i x li met inside =
-        let h = lemma-2 g line good [] (λ b w q e. found refl e) i x li inside in
-        (h .answer, plainly (node-turns g line good noRule none-needed i x li met (h .rules) .rules))
+        let h = lemma-2 g line good [] (λ b w q e. found refl e) i x li inside in (h .answer, becomes-plain i x li met (h .rules))
