@@ -88,11 +88,9 @@ fn searches_on_sheet_a() {
     assert_eq!(searches(&[], b"1", 100), None);
 }
 
-/// R <- 'a' R / L / R; L <- L 'c' / 'c': on `ac` R is live at both positions
-/// when L becomes live as the newest of three, and only L is ever found: the
-/// last R, by which R is left-recursive, is never come to.
-#[test]
-fn the_newest_of_three_is_found_first() {
+/// R <- 'a' R / L / R; L <- L 'c' / 'c'. The last R, by which R is left-recursive,
+/// is come to only where there is no `c`.
+fn right_and_left() -> Vec<u8> {
     let nodes = [
         (RANGE, 97, 97),
         (RULE, 0, 0),
@@ -104,9 +102,28 @@ fn the_newest_of_three_is_found_first() {
         (SEQ, 3, 6),
         (CHOICE, 7, 6),
     ];
-    let counted = searches(&table(&[5, 8], &nodes), b"ac", 1_000).expect("an accepted table");
+    table(&[5, 8], &nodes)
+}
+
+/// On `ac` R is live at both positions when L becomes live as the newest of
+/// three, and only L is ever found.
+#[test]
+fn the_newest_of_three_is_found_first() {
+    let counted = searches(&right_and_left(), b"ac", 1_000).expect("an accepted table");
     assert_eq!(counted.most_live, 3);
     assert!(counted.found > 0);
     assert_eq!(counted.found_from_newest, counted.found);
     assert_eq!(counted.found_from_oldest, 3 * counted.found);
+}
+
+/// On `aac` each use of R at 0 and 1 is tried twice, and the next R is looked for
+/// each time: R at 1 twice, at 2 four times, L eight times, among one, two and
+/// three live uses. None is live at the position of an R; R itself is at that of
+/// L, and one of an earlier position ends the search.
+#[test]
+fn a_search_in_vain_ends_at_an_earlier_position() {
+    let counted = searches(&right_and_left(), b"aac", 1_000).expect("an accepted table");
+    assert_eq!(counted.made - counted.found, 1 + 2 + 4 + 8);
+    assert_eq!(counted.in_vain, 2 + 4 * 2 + 8 * 3);
+    assert_eq!(counted.in_vain_here, 2 + 4 + 8 * 2);
 }
