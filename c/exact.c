@@ -102,9 +102,40 @@ static const uint8_t OPTION_REPEATED[] = {
     6, 0, 4, 0, 0,        /* 5 repetition 4 */
 };
 
+static const uint8_t DIGITS[] = {
+    1, 0, 19, 0, 2, 0, 1, /* S <- [0-9]*: version, length, two nodes, one rule */
+    0, 1,                 /* its root */
+    1, 0, 48, 0, 57,      /* 0 a digit */
+    6, 0, 0, 0, 0,        /* 1 repetition 0 */
+};
+static const uint8_t TRIED_THRICE[] = {
+    1, 0, 66, 0, 11, 0, 2, /* S <- R 'x' / 'a' R 'y' / R; R <- [a-c]*: version, length, eleven nodes, two rules */
+    0, 8, 0, 10,           /* their roots */
+    2, 0, 1, 0, 0,         /* 0 rule 1 */
+    1, 0, 120, 0, 120,     /* 1 'x' */
+    3, 0, 0, 0, 1,         /* 2 sequence 0 1 */
+    1, 0, 97, 0, 97,       /* 3 'a' */
+    1, 0, 121, 0, 121,     /* 4 'y' */
+    3, 0, 0, 0, 4,         /* 5 sequence 0 4 */
+    3, 0, 3, 0, 5,         /* 6 sequence 3 5 */
+    4, 0, 6, 0, 0,         /* 7 choice 6 0 */
+    4, 0, 2, 0, 7,         /* 8 choice 2 7 */
+    1, 0, 97, 0, 99,       /* 9 'a' to 'c' */
+    6, 0, 9, 0, 0,         /* 10 repetition 9 */
+};
+static const uint8_t ROWS_IN_A_ROW[] = {
+    1, 0, 34, 0, 5, 0, 1, /* S <- ('a'* 'b')*: version, length, five nodes, one rule */
+    0, 4,                 /* its root */
+    1, 0, 97, 0, 97,      /* 0 'a' */
+    6, 0, 0, 0, 0,        /* 1 repetition 0 */
+    1, 0, 98, 0, 98,      /* 2 'b' */
+    3, 0, 1, 0, 2,        /* 3 sequence 1 2 */
+    6, 0, 3, 0, 0,        /* 4 repetition 3 */
+};
+
 /*
  * Stored readings: A on 7+2, A on 7, A with a dot on 7+2. and on 7, B on 1,5, B on 1, one byte by one rule, S <- 'kW'*
- * on kWkW.
+ * on kWkW, S <- [0-9]* on 255 digits, R thrice on aby and on abc, S <- ('a'* 'b')* on aabab.
  */
 static const uint8_t A_TWO[] = {1, 0, 25, 0, 4, 1, 0, 1, 0, 0, 0, 0, 1, 0, 1, 1, 2, 3, 0, 0, 0, 0, 3, 0, 2};
 static const uint8_t A_ONE[] = {1, 0, 15, 0, 2, 1, 0, 1, 0, 0, 0, 0, 1, 0, 1};
@@ -115,6 +146,10 @@ static const uint8_t B_PAIR[] = {1, 0, 20, 0, 3, 1, 0, 1, 0, 0, 1, 2, 3, 0, 0, 0
 static const uint8_t B_ONE[] = {1, 0, 15, 0, 2, 1, 0, 1, 0, 0, 0, 0, 1, 0, 1};
 static const uint8_t ONE_BYTE[] = {1, 0, 10, 0, 1, 0, 0, 1, 0, 0};
 static const uint8_t WORD_TWICE[] = {1, 0, 10, 0, 1, 0, 0, 4, 0, 0};
+static const uint8_t ALL_DIGITS[] = {1, 0, 10, 0, 1, 0, 0, 255, 0, 0};
+static const uint8_t BEHIND_A[] = {1, 0, 15, 0, 2, 1, 1, 2, 0, 0, 0, 0, 3, 0, 1};
+static const uint8_t ALL_OF_THREE[] = {1, 0, 15, 0, 2, 1, 0, 3, 0, 0, 0, 0, 3, 0, 1};
+static const uint8_t ALL_OF_FIVE[] = {1, 0, 10, 0, 1, 0, 0, 5, 0, 0};
 
 /* Where the page that can't be touched stands. */
 enum side { BEHIND, IN_FRONT };
@@ -464,6 +499,115 @@ static void limits_of_what_is_lent(void)
     read_lent(asked("allowance 2^64 - 1", "7", 1, UINT64_MAX, allow, NULL), 3000, 30);
 }
 
+/* One record. Gives where the next one goes. */
+static uint8_t *put_record(uint8_t *at, size_t rule, size_t start, size_t end, size_t children)
+{
+    uint8_t record[] = {(uint8_t)rule, (uint8_t)start, (uint8_t)end, 0, (uint8_t)children};
+    memcpy(at, record, sizeof record);
+    return at + sizeof record;
+}
+
+/* The rules from this one on, each but the last only the next. */
+static void add_names(struct table *table, size_t rule, size_t last)
+{
+    for (; rule < last; rule++) add_root(table, add_node(table, RULE, rule + 1, 0));
+}
+
+/* S <- '(' S / R; R <- the next of so many rules, the last [0-9]*. */
+static void take_brackets(size_t rules)
+{
+    static struct table table;
+    memset(&table, 0, sizeof table);
+    size_t bracket = add_node(&table, RANGE, '(', '('), itself = add_node(&table, RULE, 0, 0);
+    size_t on = add_node(&table, SEQUENCE, bracket, itself), row = add_node(&table, RULE, 1, 0);
+    add_root(&table, add_node(&table, CHOICE, on, row));
+    add_names(&table, 1, rules);
+    size_t digit = add_node(&table, RANGE, '0', '9');
+    add_root(&table, add_node(&table, REPETITION, digit, 0));
+    finish(&table);
+    take(table.bytes, table.length);
+}
+
+/* Behind 169 brackets the range of the row is the open visit number 510 and the rules, with digits or without. */
+static void rows_far_inside(void)
+{
+    static char line[256];
+    static uint8_t stored[5 + 5 * 172] = {1, 3, 97, 0, 172};
+    uint8_t *at = put_record(put_record(stored + 5, 2, 169, 255, 0), 1, 169, 255, 1);
+    for (size_t start = 170; start-- > 0;) at = put_record(at, 0, start, 255, 1);
+    memset(line, '(', 169);
+    memset(line + 169, '7', 86);
+    for (int whole = 0; whole <= 1; whole++) {
+        take_brackets(2);
+        reads("86 digits, 512 open", line, whole, 855, DUE(KOS_READ, 0, 255, 855, 172, 255), stored);
+        reads("86 digits, allowance 854", line, whole, 854, DUE(KOS_EFFORT, 255, 0, 854, 0, 254), NULL);
+        reads("86 digits, allowance 700", line, whole, 700, DUE(KOS_EFFORT, 178, 0, 700, 0, 177), NULL);
+        take_brackets(3);
+        reads("86 digits, 513 open", line, whole, 2500, DUE(KOS_DEEP, 169, 0, 683, 0, 169), NULL);
+        line[169] = 0;
+        reads("no digits, 513 open", line, whole, 2500, DUE(KOS_DEEP, 169, 0, 683, 0, 169), NULL);
+        line[169] = '7';
+    }
+}
+
+/* S <- R*; R <- the next of so many rules, the last 'a'. */
+static void take_named(size_t rules)
+{
+    static struct table table;
+    memset(&table, 0, sizeof table);
+    size_t use = add_node(&table, RULE, 1, 0);
+    add_root(&table, add_node(&table, REPETITION, use, 0));
+    add_names(&table, 1, rules);
+    add_root(&table, add_node(&table, RANGE, 'a', 'a'));
+    finish(&table);
+    take(table.bytes, table.length);
+}
+
+/* A record for each rule and turn, and the root's. */
+static void rows_of_trees(void)
+{
+    static char line[126];
+    static uint8_t stored[5 + 5 * 1000] = {1, 19, 141, 3, 232};
+    uint8_t *at = stored + 5;
+    for (size_t turn = 0; turn < 111; turn++)
+        for (size_t rule = 9; rule > 0; rule--) at = put_record(at, rule, turn, turn + 1, rule < 9);
+    put_record(at, 0, 0, 111, 111);
+    memset(line, 'a', 125);
+    take_named(8);
+    reads("125 turns, 1,001 records", line, 1, 1260, DUE(KOS_RECORDS, 125, 125, 1260, 1001, 125), NULL);
+    line[111] = 0;
+    take_named(9);
+    reads("111 turns, 1,000 records", line, 1, 1232, DUE(KOS_READ, 0, 111, 1232, 1000, 111), stored);
+}
+
+/* A repetition's next visit of itself takes the place of the one before: it counts, and no more are open. */
+static void rows(void)
+{
+    static char line[256];
+    memset(line, '7', 255);
+    TAKE(DIGITS);
+    for (int whole = 0; whole <= 1; whole++) {
+        reads("[0-9]* on 255 digits", line, whole, 512, DUE(KOS_READ, 0, 255, 512, 1, 255), ALL_DIGITS);
+        reads("[0-9]* on 255 digits, allowance 511", line, whole, 511, DUE(KOS_EFFORT, 255, 0, 511, 0, 254), NULL);
+        reads("[0-9]* on 255 digits, allowance 100", line, whole, 100, DUE(KOS_EFFORT, 50, 0, 100, 0, 49), NULL);
+        reads("[0-9]* on 255 digits, allowance 101", line, whole, 101, DUE(KOS_EFFORT, 50, 0, 101, 0, 49), NULL);
+    }
+    TAKE(TRIED_THRICE);
+    report(sheet, sheet_length, KOS_READ, 0, 3, 0, 0, 64, 1);
+    for (int whole = 0; whole <= 1; whole++) {
+        reads("R thrice on aby", "aby", whole, 17, DUE(KOS_READ, 0, 3, 17, 2, 2), BEHIND_A);
+        reads("R thrice on aby, allowance 16", "aby", whole, 16, DUE(KOS_EFFORT, 2, 0, 16, 0, 2), NULL);
+        reads("R thrice on aby, allowance 15", "aby", whole, 15, DUE(KOS_EFFORT, 1, 0, 15, 0, 2), NULL);
+        reads("R thrice on abc", "abc", whole, 2500, DUE(KOS_READ, 0, 3, 20, 2, 3), ALL_OF_THREE);
+    }
+    TAKE(ROWS_IN_A_ROW);
+    reads("('a'* 'b')* on aabab", "aabab", 1, 21, DUE(KOS_READ, 0, 5, 21, 1, 5), ALL_OF_FIVE);
+    reads("('a'* 'b')* on aabab, allowance 13", "aabab", 1, 13, DUE(KOS_EFFORT, 4, 0, 13, 0, 3), NULL);
+    reads("('a'* 'b')* on aaba", "aaba", 1, 2500, DUE(KOS_REST, 3, 3, 16, 0, 4), NULL);
+    rows_far_inside();
+    rows_of_trees();
+}
+
 /* A table that is refused is refused by all four, and nothing is changed. */
 static void refused(const char *name, const uint8_t *table, size_t length, uint64_t code, uint64_t place)
 {
@@ -547,6 +691,7 @@ int main(void)
         furthest_ranges();
         doubling_rules();
         long_lines();
+        rows();
         limits_of_what_is_lent();
         refused_tables();
         repetitions_of_nothing();

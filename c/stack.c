@@ -150,13 +150,18 @@ static size_t or_rule_0(enum sort sort, size_t node, size_t use)
     return sort == LIVE ? add_node(&table, CHOICE, node, use) : node;
 }
 
+static void must_be(enum sort sort)
+{
+    call_report();
+    must(answer[KOS_AT_FREE] == (sort == FREE), "not as free as is meant");
+    must((answer[KOS_AT_LOWEST] == 0) == (sort == LIVE), "not as live as is meant");
+}
+
 static void end(enum sort sort)
 {
     if (sort != FREE) add_root(&table, add_node(&table, RULE, table.rule_count, 0));
     finish(&table);
-    call_report();
-    must(answer[KOS_AT_FREE] == (sort == FREE), "not as free as is meant");
-    must((answer[KOS_AT_LOWEST] == 0) == (sort == LIVE), "not as live as is meant");
+    must_be(sort);
 }
 
 /* T <- 'a' T / empty, three visits deeper with each byte. */
@@ -172,18 +177,39 @@ static void right_recursion(enum sort sort)
     must(answer[KOS_AT_FURTHEST] > 0 && answer[KOS_AT_FURTHEST] <= answer[KOS_AT_PLACE], "not as far as is meant");
 }
 
-/*
- * ((..('a'* 'b')* 'b')* ..)* on 255 'a': 128 repetitions, each with a sequence below it, and in the innermost one visit
- * more with each byte. No deeper row of repetitions alone is accepted, since each takes a byte.
- */
+/* S <- ('a' S)*, three visits deeper with each byte: in each turn a repetition is open inside the one before. */
 static void repetitions(enum sort sort)
 {
     begin(KOS_MOST_LINE);
-    size_t last = add_node(&table, RANGE, 'b', 'b'), top = byte_or_rule(sort, 1);
-    for (size_t i = 0; i < 128; i++) top = add_node(&table, SEQUENCE, add_node(&table, REPETITION, top, 0), last);
-    add_root(&table, add_node(&table, REPETITION, top, 0));
+    size_t byte = byte_or_rule(sort, 1), use = add_node(&table, RULE, 0, 0);
+    add_root(&table, add_node(&table, REPETITION, add_node(&table, SEQUENCE, byte, use), 0));
     end(sort);
     measure(NAME("repetitions", sort), call_read, KOS_DEEP);
+}
+
+/*
+ * (..(('a'* 'a')* 'a'* 'a')* 'a'* 'a' ..)* on 255 'a', each of 512 nodes below the next: every second is a repetition,
+ * and the lowest takes 255 turns while 512 visits are open. The 'a' behind it fails, so that each one above takes none.
+ */
+static void row_at_the_bottom(enum sort sort)
+{
+    begin(KOS_MOST_LINE);
+    size_t child = add_node(&table, RANGE, 'a', 'a'), use = 0;
+    if (sort != FREE) {
+        use = add_node(&table, RULE, 1, 0);
+        child = add_node(&table, CHOICE, child, use);
+    }
+    size_t top = add_node(&table, REPETITION, child, 0);
+    size_t second = top = add_node(&table, SEQUENCE, top, child);
+    while (table.node_count + 2 < KOS_MOST_NODES)
+        top = add_node(&table, SEQUENCE, add_node(&table, REPETITION, top, 0), second);
+    add_root(&table, add_node(&table, REPETITION, top, 0));
+    if (sort != FREE) add_root(&table, use);
+    finish(&table);
+    must_be(sort);
+    must(table.node_count == KOS_MOST_NODES, "not 512 nodes");
+    measure(NAME("repetitions over a row of 255 turns", sort), call_read, KOS_REST);
+    must(answer[KOS_AT_FURTHEST] == KOS_MOST_LINE, "not as far as is meant");
 }
 
 /* A ring of 62 rules, each the next one; the last goes one byte on. Nearly every open visit is a use. */
@@ -270,8 +296,10 @@ int main(void)
     printf("   bytes  of stack\n");
     for (size_t i = 0; i < sizeof chains / sizeof chains[0]; i++) measure_chain(&chains[i]);
     range_at_the_bottom();
-    repetitions(FREE);
-    repetitions(ONCE);
+    for (enum sort sort = FREE; sort <= ONCE; sort++) {
+        repetitions(sort);
+        row_at_the_bottom(sort);
+    }
     for (enum sort sort = FREE; sort <= LIVE; sort++) {
         right_recursion(sort);
         ring(sort);

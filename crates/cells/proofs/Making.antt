@@ -11,7 +11,8 @@ use borrow.Author.Tests.{le-ltb, lt-ltb}
 use Rattle.meaning.specs.Grammar.{Trees, no-trees, tree, _⋈_}
 use Rattle.stored.specs.Stored.{recordsOf, numberOf}
 use Rattle.meaning.proofs.Sets.{sets-below, sets-above, sets-at}
-use Rattle.stored.proofs.Bytes.{join-none, records-join, number-join}
+use Rattle.meaning.proofs.Answers.{join-none}
+use Rattle.stored.proofs.Bytes.{records-join, number-join}
 use Rattle.cells.specs.Cells.{saturated, mark, packed, cellTrees, lists, treesAt, recordsWord, treesWord, withCell, withTree, withJoin, joined, joinOf}
 use Rattle.cells.specs.Arena.{Arena, Made}
 use Rattle.cells.proofs.Frame.{SameCells, trees-none, trees-zero, lists-at, trees-cell, lists-same, trees-same}

@@ -16,6 +16,7 @@ use Rattle.meaning.proofs.Runs.{Ends}
 use Rattle.meaning.proofs.Amounts.{Amounts}
 use Rattle.meaning.proofs.Claims as claims
 use Rattle.meaning.proofs.Claims.{Only}
+use Rattle.meaning.proofs.Older.{EndsSo}
 use Rattle.meaning.proofs.OneBounded.{one-reading}
 use Rattle.meaning.proofs.Complete.{read-complete}
 use Rattle.layout.specs.declared.Verdict.{Verdict}
@@ -26,7 +27,7 @@ use Rattle.sheet.specs.Check.{LOOP, checkOf}
 use Rattle.sheet.specs.Given.{WellFormed}
 use Rattle.sheet.proofs.Exact.{given-iff, check-code}
 use Rattle.reader.specs.Answer.{EFFORT, DEEP, FAIL, ROOM, Outcome}
-use Rattle.koskorbelu.specs.Demands.{Call, back, code, visits, furthest, grammar, run, Ended, fails, rest, records, room, reads, Came, effort, deep, done, Taken, Given, check, line, allow}
+use Rattle.koskorbelu.specs.Demands.{Call, back, code, visits, furthest, grammar, run, ended, Ended, fails, rest, records, room, reads, Came, effort, deep, done, Taken, Given, check, line, allow}
 use Rattle.koskorbelu.specs.Demands.{work, taken, Answers, Published, Demand2}
 use Rattle.koskorbelu.proofs.Demand1.{gives, came, given}
 use Rattle.koskorbelu.proofs.Rows.{exactly}
@@ -257,6 +258,58 @@ module _ (c : Call) where
       of (done {r = r′} {s = u} m k) q =
           let z : (r′ ≡ r) × (u .furthest ≡ s .furthest) × (made (c .allowance) u ≤ made (c .allowance) s) = rw m at too in
           (made (c .allowance) u, z .2, rw (q, ← (z .0), ← (z .1)) k)
+
+  -- 02, W-208: where the reading in which a repetition's next visit of itself opened one visit more is done or refused for effort, the call comes to just that; and it is refused
+  -- for depth only where that reading is.
+  not-both : {A : Type 0} {p : ℕ} {r : Answer} {s u : State} → Run.done r s ≡ Run.effort p u → A
+  not-both e = let z : _≡_ {A = ℕ} 0 1 = cc in absurd (omega arith)
+
+  not-deep : {A : Type 0} {p : ℕ} {r : Answer} {s u : State} → Run.done r s ≡ Run.deep p u → A
+  not-deep e = let z : _≡_ {A = ℕ} 0 1 = cc in absurd (omega arith)
+
+  not-effort : {A : Type 0} {p q : ℕ} {s u : State} → Run.effort p s ≡ Run.deep q u → A
+  not-effort e = let z : _≡_ {A = ℕ} 0 1 = cc in absurd (omega arith)
+
+  nested : EndsSo (claims.readNested (grammar c) (c .line) (c .allowance)) (run c)
+  nested = claims.as-nested (grammar c) (c .line) (c .allowance)
+
+  pub as-nested : (t : Taken c) {r : Answer} {s : State} → claims.readNested (grammar c) (c .line) (c .allowance) ≡ Run.done r s → Ended c (made (c .allowance) s) (s .furthest) r (back c)
+  as-nested t {r} {s} e = of (came c t) refl
+    where
+      is : run c ≡ Run.done r s
+      is = nested .done-so r s e
+
+      of : {o : Outcome} → Came c o → back c ≡ o → Ended c (made (c .allowance) s) (s .furthest) r (back c)
+      of (effort m) q = not-both (sym is ∙ m)
+      of (deep m) q = not-deep (sym is ∙ m)
+      of (done {r = r′} {s = u} m k) q =
+          let d : Run.done r′ u ≡ Run.done r s = sym m ∙ is in
+          let a : r′ ≡ r = cc in
+          let b : u ≡ s = cc in
+          rw (q, ← a, ← b) k
+
+  pub effort-nested : (t : Taken c) {p : ℕ} {s : State} → claims.readNested (grammar c) (c .line) (c .allowance) ≡ Run.effort p s → back c ≡ ended c EFFORT p 0 (made (c .allowance) s) 0 (s .furthest)
+  effort-nested t {p} {s} e = of (came c t) refl
+    where
+      is : run c ≡ Run.effort p s
+      is = nested .effort-so p s e
+
+      of : {o : Outcome} → Came c o → back c ≡ o → back c ≡ ended c EFFORT p 0 (made (c .allowance) s) 0 (s .furthest)
+      of (effort {p = p′} {s = u} m) q =
+          let d : Run.effort p′ u ≡ Run.effort p s = sym m ∙ is in
+          let a : p′ ≡ p = cc in
+          let b : u ≡ s = cc in
+          q ∙ rw (a, b) refl
+      of (deep m) q = not-effort (sym is ∙ m)
+      of (done m k) q = not-both (sym m ∙ is)
+
+  pub deep-nested : (t : Taken c) → code (back c) ≡ DEEP → (p : ℕ) × (s : State) × (claims.readNested (grammar c) (c .line) (c .allowance) ≡ Run.deep p s)
+  deep-nested t e = of (came c t) refl
+    where
+      of : {o : Outcome} → Came c o → back c ≡ o → (p : ℕ) × (s : State) × (claims.readNested (grammar c) (c .line) (c .allowance) ≡ Run.deep p s)
+      of (effort m) q = let z = sym (ap code q) ∙ e in absurd (omega arith)
+      of (deep {p = p} {s = s} m) q = nested .deep-before p s m
+      of (done m k) q = not-answering (subst Answers (sym (ap code q) ∙ e) (ended-answers k)) (omega arith)
 
   -- Document 003's Lemma 2: every accepted table has an answer on every line.
   pub answered : WellFormed (c .table) → (r : Answer) × (n : Amount) × Only (grammar c) (c .line) (leftRecursive (grammar c)) r n

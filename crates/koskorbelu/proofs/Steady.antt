@@ -9,7 +9,8 @@ use mathlib.Core.Option.{Option, none, some}
 use lib.Dec.{ltb, eqb}
 use Rattle.meaning.specs.Grammar.{Node, empty, range, rule, seq, choice, not, rep, Grammar, node, rootOf, Trees, Answer, fail, ok, Note, noted, look}
 use Rattle.meaning.specs.Reading.{State, starting, spent as leaving, asked, Run, Visit, after, joined, second, otherwise, denied, repeatFrom, repeated, wrapped, apply, longer, attempted, grow, firstAttempt, useLive, keep}
-use Rattle.meaning.specs.Reading.{counted, Way, keeps, grows, becomesLive, useBy, useRule, recall, visited, visit, readBy}
+use Rattle.meaning.specs.Reading.{counted, Way, keeps, grows, becomesLive, useBy, useRule, recall, visited, inPlace, visit, readBy}
+use Rattle.meaning.proofs.InPlace.{in-place-is}
 
 -- F came from s to t in so many visits; with any number to spare it makes as many and ends alike, with that number left.
 pub record Made (F : State → Run) (least : ℕ) (s t : State) (end : State → Run) (spare : ℕ) : Type 0 where
@@ -76,7 +77,7 @@ weaker F h s = by (F s) (h s)
     by (Run.done r t) k = record { count = k .count; some = omega arith; spent = k .spent; always = k .always }
 
 -- ---- The kinds of nodes.
-module _ (line : List ℕ) (v u : Visit) (hv : (i x : ℕ) → Steady 0 (v i x)) (hu : (a x : ℕ) → Steady 0 (u a x)) where
+module _ (line : List ℕ) (v w u : Visit) (hv : (i x : ℕ) → Steady 0 (v i x)) (hw : (i x : ℕ) → Steady 0 (w i x)) (hu : (a x : ℕ) → Steady 0 (u a x)) where
   of-joined : (ts : Trees) (r : Answer) → Steady 0 (joined ts r)
   unfolding joined
   of-joined ts fail = at-once fail
@@ -97,16 +98,16 @@ module _ (line : List ℕ) (v u : Visit) (hv : (i x : ℕ) → Steady 0 (v i x))
   of-denied x fail = at-once _
   of-denied x (ok e ts) = at-once fail
 
-  of-repeated : (i x : ℕ) (r : Answer) → Steady 0 (repeated v i x r)
+  of-repeated : (i x : ℕ) (r : Answer) → Steady 0 (repeated w i x r)
   unfolding repeated repeatFrom
   of-repeated i x fail = at-once _
   of-repeated i x (ok e ts) = by (eqb x e)
     where
-      by : (b : Bool) → Steady 0 (λ s. repeatFrom v i x e ts s b)
+      by : (b : Bool) → Steady 0 (λ s. repeatFrom w i x e ts s b)
       by true = at-once _
-      by false = then (v i e) (joined ts) 0 (hv i e) (of-joined ts)
+      by false = then (w i e) (joined ts) 0 (hw i e) (of-joined ts)
 
-  of-apply : (i x : ℕ) (p : Node) → Steady 0 (λ s. apply line v u i x s p)
+  of-apply : (i x : ℕ) (p : Node) → Steady 0 (λ s. apply line v w u i x s p)
   unfolding apply
   of-apply i x empty = at-once _
   of-apply i x (range lo hi) = of-range x _
@@ -114,7 +115,7 @@ module _ (line : List ℕ) (v u : Visit) (hv : (i x : ℕ) → Steady 0 (v i x))
   of-apply i x (seq a b) = then (v a x) (second v b) 0 (hv a x) (of-second b)
   of-apply i x (choice a b) = then (v a x) (otherwise v b x) 0 (hv a x) (of-otherwise b x)
   of-apply i x (not a) = then (v a x) (denied x) 0 (hv a x) (of-denied x)
-  of-apply i x (rep a) = then (v a x) (repeated v i x) 0 (hv a x) (of-repeated i x)
+  of-apply i x (rep a) = then (v a x) (repeated w i x) 0 (hv a x) (of-repeated i x)
 
 -- ---- Growing: each attempt makes a visit, so that as many attempts as there are visits left are enough.
 module _ (v : Answer → State → Run) (x : ℕ) (hv : (r : Answer) → Steady 1 (v r)) where
@@ -235,6 +236,29 @@ too-deep x s = by (s .left)
     by zero = tt
     by (suc l) = record { count = 0; some = omega arith; spent = omega arith; always = λ j m. rw (zero-add j) (again j m) }
 
+-- G is F with any bound that is no less than the visits left, as each of which is steady: so many visits were made whatever the bound was.
+module _ (F : ℕ → State → Run) (G : State → Run) (same : (f : ℕ) (s : State) → s .left ≤ f → F f s ≡ G s) where
+  whatever : (least spare : ℕ) (s t : State) (end : State → Run) → ((f : ℕ) → s .left ≤ f → Made (F f) least s t end spare) → Made G least s t end spare
+  whatever least spare s t end h =
+      let k = h (s .left) (omega arith) in
+      record { count = k .count; some = k .some; spent = k .spent; always = λ j l. again (k .count) (k .spent) j l }
+    where
+      again : (n : ℕ) → s .left ≡ n + t .left → (j : ℕ) → spare ≤ j → G (leaving (n + j) s) ≡ end (leaving j t)
+      again n e j l =
+          let f : ℕ = s .left + (n + j) in
+          let k = h f (omega arith) in
+          let z = k .spent in
+          let m : k .count ≡ n = omega arith in
+          sym (same f (leaving (n + j) s) (omega arith)) ∙ subst (λ c. F f (leaving (c + j) s) ≡ end (leaving j t)) m (k .always j l)
+
+  of-bounds : ((f : ℕ) → Steady 1 (F f)) → Steady 1 G
+  of-bounds h s = by (G s) (λ f le. subst (Fact (F f) 1 s) (same f s le) (h f s))
+    where
+      by : (m : Run) → ((f : ℕ) → s .left ≤ f → Fact (F f) 1 s m) → Fact G 1 s m
+      by (Run.effort p t) k = tt
+      by (Run.deep p t) k = whatever 0 1 s t (Run.deep p) k
+      by (Run.done r t) k = whatever 1 0 s t (Run.done r) k
+
 module _ (g : Grammar) (line : List ℕ) where
   module _ (v : List Note → Visit) (hv : (l : List Note) (i x : ℕ) → Steady 1 (v l i x)) where
     of-by : (b : Bool) (l : List Note) (a x : ℕ) → Steady 0 (useBy g line b v l a x)
@@ -245,32 +269,44 @@ module _ (g : Grammar) (line : List ℕ) where
     of-use : (way : Way) (l : List Note) (a x : ℕ) → Steady 0 (useRule g line way v l a x)
     of-use way l a = of-by (becomesLive way a) l a
 
-    of-node : (way : Way) (l : List Note) (i x : ℕ) → Steady 0 (λ s. apply line (v l) (useRule g line way v l) i x s (node g i))
-    of-node way l i x = of-apply line (v l) (useRule g line way v l) (λ j y. weaker (v l j y) (hv l j y)) (of-use way l) i x (node g i)
-
     of-keep : (i x : ℕ) (r : Answer) → Steady 0 (keep i x r)
     unfolding keep
     of-keep i x r s = record { count = 0; some = omega arith; spent = omega arith; always = λ j l. rw (zero-add j) }
 
-    of-recall : (l : List Note) (i x : ℕ) (o : Option Answer) → Steady 0 (λ s. recall g line v l i x s o)
-    unfolding recall
-    of-recall l i x (some r) = at-once r
-    of-recall l i x none = then (λ s. apply line (v l) (useRule g line keeps v l) i x s (node g i)) (keep i x) 0 (of-node keeps l i x) (of-keep i x)
+    -- w visits in place.
+    module _ (w : List Note → Visit) (hw : (l : List Note) (i x : ℕ) → Steady 1 (w l i x)) where
+      of-node : (way : Way) (l : List Note) (i x : ℕ) → Steady 0 (λ s. apply line (v l) (w l) (useRule g line way v l) i x s (node g i))
+      of-node way l i x =
+          of-apply line (v l) (w l) (useRule g line way v l) (λ j y. weaker (v l j y) (hv l j y)) (λ j y. weaker (w l j y) (hw l j y)) (of-use way l) i x (node g i)
 
-    of-visited : (way : Way) (l : List Note) (i x : ℕ) → Steady 0 (visited g line way v l i x)
-    unfolding visited
-    of-visited keeps l i x s = by (recall g line v l i x s (look (s .kept) i x)) (of-recall l i x (look (s .kept) i x) s)
-      where
-        by : (m : Run) → Fact (λ t. recall g line v l i x t (look (s .kept) i x)) 0 s m → Fact (visited g line keeps v l i x) 0 s m
-        by (Run.effort p t) h = tt
-        by (Run.deep p t) h = record { count = h .count; some = h .some; spent = h .spent; always = h .always }
-        by (Run.done r t) h = record { count = h .count; some = h .some; spent = h .spent; always = h .always }
-    of-visited (grows live) l i x s = of-node (grows live) l i x s
+      of-recall : (l : List Note) (i x : ℕ) (o : Option Answer) → Steady 0 (λ s. recall g line v w l i x s o)
+      unfolding recall
+      of-recall l i x (some r) = at-once r
+      of-recall l i x none = then (λ s. apply line (v l) (w l) (useRule g line keeps v l) i x s (node g i)) (keep i x) 0 (of-node keeps l i x) (of-keep i x)
+
+      of-visited : (way : Way) (l : List Note) (i x : ℕ) → Steady 0 (visited g line way v w l i x)
+      unfolding visited
+      of-visited keeps l i x s = by (recall g line v w l i x s (look (s .kept) i x)) (of-recall l i x (look (s .kept) i x) s)
+        where
+          by : (m : Run) → Fact (λ t. recall g line v w l i x t (look (s .kept) i x)) 0 s m → Fact (visited g line keeps v w l i x) 0 s m
+          by (Run.effort p t) h = tt
+          by (Run.deep p t) h = record { count = h .count; some = h .some; spent = h .spent; always = h .always }
+          by (Run.done r t) h = record { count = h .count; some = h .some; spent = h .spent; always = h .always }
+      of-visited (grows live) l i x s = of-node (grows live) l i x s
+
+    -- With any bound on the visits made in one place.
+    of-place : (way : Way) (f : ℕ) (l : List Note) (i x : ℕ) → Steady 1 (inPlace g line way f v l i x)
+    unfolding inPlace
+    of-place way zero l i x = hv l i x
+    of-place way (suc f) l i x =
+        let w : List Note → Visit = inPlace g line way f v in
+        of-counted x (visited g line way v w l i x) (of-visited w (of-place way f) way l i x)
 
   of-visit : (way : Way) (d : ℕ) (l : List Note) (i x : ℕ) → Steady 1 (visit g line way d l i x)
   unfolding visit
   of-visit way zero l i x = too-deep x
-  of-visit way (suc d) l i x = of-counted x (visited g line way (visit g line way d) l i x) (of-visited (visit g line way d) (of-visit way d) way l i x)
+  of-visit way (suc d) l i x = let v : List Note → Visit = visit g line way d in
+      of-bounds (λ f. inPlace g line way f v l i x) (visit g line way (suc d) l i x) (λ f s le. in-place-is g line way d f l i x s le) (λ f. of-place v (of-visit way d) way f l i x)
 
   -- ---- The reading.
   module _ (way : Way) where

@@ -16,7 +16,8 @@ use Rattle.stored.specs.Stored.{recordsOf, storedLength, storedOf}
 use Rattle.stored.specs.WellFormed.{wellFormedOf}
 use Rattle.stored.specs.Nested.{Nested}
 use Rattle.stored.specs.ReadBack.{treeOf}
-use Rattle.stored.proofs.Bytes.{length-stored, join-none}
+use Rattle.meaning.proofs.Answers.{join-none}
+use Rattle.stored.proofs.Bytes.{length-stored}
 use Rattle.stored.proofs.Nested.{nested-join, nested-fits}
 use Rattle.stored.proofs.Written.{written}
 use Rattle.stored.proofs.ReadBack as R

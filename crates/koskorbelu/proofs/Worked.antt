@@ -10,7 +10,7 @@ use lib.ListN.{length, drop}
 use Rattle.meaning.specs.Grammar.{Trees, fail, ok, wrap, fits, look}
 use Rattle.meaning.specs.Decide.{emptyNodes, ledTo, ledRules, leftRecursive, isFree}
 use Rattle.meaning.specs.Reading.{made, Run, after, byte, joined, second, otherwise, repeatFrom, repeated, wrapped, apply, longer, attempted, grow, firstAttempt, useLive, keep, counted, useBy}
-use Rattle.meaning.specs.Reading.{recall, visited, visit, readBy, read}
+use Rattle.meaning.specs.Reading.{recall, visited, inPlace, visit, readBy, read}
 use Rattle.meaning.specs.Reading as reading
 use Rattle.meaning.specs.Report.{bound}
 use Rattle.meaning.proofs.Choose.{by-test-twice}
@@ -192,7 +192,7 @@ all-hold (l ∷ ls) h = (holds l (head-eq-of-cons-eq h), all-hold ls (tail-eq-of
 
 all-computed : map computed worked ≡ map wanted worked
 unfolding worked roomy matched wrap fits look after byte joined second otherwise reading.denied repeatFrom repeated wrapped apply longer attempted grow firstAttempt useLive keep
-    counted useBy recall visited visit readBy read emptyNodes ledTo ledRules leftRecursive isFree checkOf loopFault layoutOf firstFault rootFault nodeFault faultOf fieldsFit lengthOf
+    counted useBy recall visited inPlace visit readBy read emptyNodes ledTo ledRules leftRecursive isFree checkOf loopFault layoutOf firstFault rootFault nodeFault faultOf fieldsFit lengthOf
     nodesOf rulesOf rootOf formula kindOf fieldOf nodeOf grammarOf recordsOf numberOf inBytes recordBytes treesBytes headBytes storedOf
 all-computed = refl
 

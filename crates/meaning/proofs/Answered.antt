@@ -11,7 +11,7 @@ use lib.Dec.{ltb, eqb}
 use borrow.Author.Tests.{ltb-true, ltb-false, eqb-true, eqb-false}
 use native.Mathlib.Omega.{arith}
 use Rattle.meaning.specs.Grammar.{Node, empty, range, rule, seq, choice, not, rep, Grammar, node, rootOf, root, Below, Closed, Trees, no-trees, _⋈_, Answer, fail, ok, wrap, fits, Note, noted, look}
-use Rattle.meaning.specs.Rules.{Goal, at, inc, Amount, nothing, asking, _⊕_, visiting, Bounded, everyRule, Reads}
+use Rattle.meaning.specs.Rules.{Goal, at, inc, Amount, nothing, asking, _⊕_, visiting, inPlace, Bounded, everyRule, Reads}
 use Rattle.meaning.specs.Rules as R
 use Rattle.meaning.proofs.Answers.{found}
 use Rattle.meaning.proofs.Conserve.{as-reading}
@@ -82,7 +82,7 @@ module _ (g : Grammar) (line : List ℕ) where
 
       rep-two : (a y : ℕ) (ts : Trees) (n : Amount) → x ≢ y → Bounded g line everyRule l (at (node g a)) x (ok y ts) n → (r : Answer) (m : Amount) → Bounded g line everyRule l (at (rep a)) y r m → Answers l (at (rep a)) x
       rep-two a y ts n q h fail m k = rep-matches g line everyRule k refl
-      rep-two a y ts n q h (ok z us) m k = record { answer = ok z (ts ⋈ us); amount = visiting (n ⊕ m); rules = R.rep2 h q k }
+      rep-two a y ts n q h (ok z us) m k = record { answer = ok z (ts ⋈ us); amount = visiting (n ⊕ inPlace m); rules = R.rep2 h q k }
 
       rep-at : (i a y : ℕ) (ts : Trees) (n : Amount) → i < length (g .nodes) → node g i ≡ rep a → Bounded g line everyRule l (at (node g a)) x (ok y ts) n → (t : Bool) → eqb x y ≡ t → Answers l (at (rep a)) x
       rep-at i a y ts n li e h true q =

@@ -1,10 +1,10 @@
 -- Small laws of answers: what equal answers have in common, and which answers are never equal.
-use mathlib.Core.Path.{_≡_, sym, ap, ap₂}
+use mathlib.Core.Path.{_≡_, refl, sym, ap, ap₂}
 use Prim.Native.Nat.{ℕ}
 use mathlib.Core.Bool.{Bool, true, false}
 use mathlib.Core.Option.{Option, none, some}
 use native.Mathlib.Omega.{arith}
-use Rattle.meaning.specs.Grammar.{Trees, _⋈_, Answer, fail, ok}
+use Rattle.meaning.specs.Grammar.{Trees, no-trees, tree, _⋈_, Answer, fail, ok}
 
 -- Two derivations have one answer, and one count (what they amount to, or a height).
 pub record Same {C : Type 0} (r s : Answer) (n m : C) : Type 0 where
@@ -35,6 +35,15 @@ held p q = cc
 
 pub joined : {e f y z : ℕ} {ts us vs ws : Trees} → ok y ts ≡ ok z us → ok e vs ≡ ok f ws → ok e (ts ⋈ vs) ≡ ok f (us ⋈ ws)
 joined p q = cc
+
+-- Lists of trees joined.
+pub join-none : (ts : Trees) → ts ⋈ no-trees ≡ ts
+join-none no-trees = refl
+join-none (tree a x e cs ts) = rw (join-none ts)
+
+pub join-twice : (ts us vs : Trees) → (ts ⋈ us) ⋈ vs ≡ ts ⋈ (us ⋈ vs)
+join-twice no-trees us vs = refl
+join-twice (tree a x e cs ts) us vs = rw (join-twice ts us vs)
 
 -- A rule with one premise, and with two; f makes its count of theirs.
 pub step : {C : Type 0} (f : C → C) {r s t u : Answer} {n m : C} → r ≡ s → Same t u n m → Same r s (f n) (f m)

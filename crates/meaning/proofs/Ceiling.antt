@@ -10,14 +10,14 @@ use native.Mathlib.Omega.{arith}
 use Rattle.meaning.specs.Grammar.{Node, rule, Grammar, node, rootOf, root, Below, Closed, Answer, Note, noted, look}
 use Rattle.meaning.specs.Rules.{Plain, empty1, char1, char2, var}
 use Rattle.meaning.specs.Report.{bound}
-use Rattle.meaning.specs.Reading.{State, starting, spent, keeping, made, Visit, deep, wrapped, keep, keeps, useBy, useRule, recall, visited, visit, readBy}
+use Rattle.meaning.specs.Reading.{State, starting, spent, keeping, made, Visit, deep, wrapped, keep, keeps, useBy, useRule, recall, visited, inPlace, visit, readBy}
 use Rattle.meaning.proofs.Answers.{found}
 use Rattle.meaning.proofs.OnePlain.{height, det}
 use Rattle.meaning.proofs.Runs.{Ends, ends-after, ends-map, ends-both, ends-counted}
 use Rattle.meaning.proofs.Free.{span}
 use Rattle.meaning.proofs.Effort.{effort-left}
 use Rattle.meaning.proofs.Walk as W
-use Rattle.meaning.proofs.Walk.{Leaf, First, Second, Refusal, by-effort, by-depth, Laws, walk}
+use Rattle.meaning.proofs.Walk.{Leaf, First, Place, Second, Refusal, by-effort, by-depth, Laws, walk}
 use Rattle.meaning.proofs.Kept.{plain-one, plain-two, Right, right-keep}
 use Rattle.meaning.proofs.Lower.{first-below, second-below, Lower, root-lower, first-lower, second-lower}
 use Rattle.meaning.proofs.Pigeon.{Absent, In, Distinct, seek, at-most, distinct-mid, absent-both}
@@ -108,7 +108,7 @@ module _ (g : Grammar) (line : List ℕ) where
   }
 
   module _ (good : Closed g) where
-    second-inside : {p q : Node} {i b x y : ℕ} {r : Answer} {f : Answer → Answer} → Second i x p r b y f → Plain g line q x r → x ≤ L → y ≤ L
+    second-inside : {j : Place} {p q : Node} {i b x y : ℕ} {r : Answer} {f : Answer → Answer} → Second i x j p r b y f → Plain g line q x r → x ≤ L → y ≤ L
     second-inside W.con h lx = span g line h .inside lx
     second-inside W.ord h lx = lx
     second-inside (W.rep2 n) h lx = span g line h .inside lx
@@ -145,10 +145,10 @@ module _ (g : Grammar) (line : List ℕ) where
       first-under : (i a x : ℕ) → First (node g i) a → Under o (node g i) x 0 → Under o (node g a) x 1
       first-under i a x m u = lower-under x u (u .inside) (first-lower g line m (u .rules))
 
-      second-there : (i x b y : ℕ) (r : Answer) (f : Answer → Answer) → Second i x (node g i) r b y f → i < length (g .nodes) → b < length (g .nodes)
+      second-there : {j : Place} (i x b y : ℕ) (r : Answer) (f : Answer → Answer) → Second i x j (node g i) r b y f → i < length (g .nodes) → b < length (g .nodes)
       second-there i x b y r f n li = let z : b ≤ i = second-below g n (good .nodes i li) in omega arith
 
-      second-under : (i x a b y : ℕ) (r : Answer) (f : Answer → Answer) → First (node g i) a → Second i x (node g i) r b y f → Plain g line (node g a) x r
+      second-under : {j : Place} (i x a b y : ℕ) (r : Answer) (f : Answer → Answer) → First (node g i) a → Second i x j (node g i) r b y f → Plain g line (node g a) x r
           → Under o (node g i) x 0 → Under o (node g b) y 1
       second-under i x a b y r f m n h u = lower-under y u (second-inside n h (u .inside)) (second-lower g line refl m n h (u .rules))
 
@@ -158,20 +158,20 @@ module _ (g : Grammar) (line : List ℕ) where
       came-leaf (W.char1 q) w = record { plain = char1 q; inv = record { right = w .right; inside = w .inside; distinct = w .distinct }; count = omega arith }
       came-leaf (W.char2 q) w = record { plain = char2 q; inv = record { right = w .right; inside = w .inside; distinct = w .distinct }; count = omega arith }
 
-      laws : Laws g line Visits Uses Applies Visits′ Uses′ Applies′
+      laws : Laws g line (λ j. Visits) Uses Applies (λ j. Visits′) Uses′ Applies′
       laws = record {
         leaf = λ i x r s t l li u w. came-leaf l w;
         uses = λ i a x r s t e h li u w. let k = h (rule-there i a e li) (rule-under i a x e u) w in let z = k .count in
             record { plain = rw e (k .plain); inv = k .inv; count = omega arith };
         one = λ i x a r q s t m n h li u w. let k = h (first-there i a m li) (first-under i a x m u) w in let z = k .count in
             record { plain = plain-one g line m n (k .plain); inv = k .inv; count = omega arith };
-        two = λ i x a b y r q f s t t′ m n h h′ li u w. let k = h (first-there i a m li) (first-under i a x m u) w in
+        two = λ i x a b y j r q f s t t′ m n h h′ li u w. let k = h (first-there i a m li) (first-under i a x m u) w in
             let k′ = h′ (second-there i x b y r f n li) (second-under i x a b y r f m n (k .plain) u) (k .inv) in
             let z = k .count in let z′ = k′ .count in
             record { plain = plain-two g line refl m n (k .plain) (k′ .plain); inv = k′ .inv; count = omega arith };
         uses-refused = λ why i a x s t e h li u w. let z = h (rule-there i a e li) (rule-under i a x e u) w in omega arith;
         one-refused = λ why i x a s t m h li u w. let z = h (first-there i a m li) (first-under i a x m u) w in omega arith;
-        two-refused = λ why i x a b y r f s t t′ m n h h′ li u w. let k = h (first-there i a m li) (first-under i a x m u) w in
+        two-refused = λ why i x a b y j r f s t t′ m n h h′ li u w. let k = h (first-there i a m li) (first-under i a x m u) w in
             let z = k .count in let z′ = h′ (second-there i x b y r f n li) (second-under i x a b y r f m n (k .plain) u) (k .inv) in omega arith;
       }
 
@@ -188,30 +188,40 @@ module _ (g : Grammar) (line : List ℕ) where
           (λ t h la u w. h (good .roots a la) (root-under o a x u) w)
           (λ r t h la u w. let k = h (good .roots a la) (root-under o a x u) w in record { plain = var (k .plain); inv = k .inv; count = k .count })
 
-      -- A visit with n left after it, of a pair that is kept or not.
-      of-recall : (o : List ℕ) (i x n : ℕ) (s : State) (m : Option Answer) → s .left ≡ suc n → look (s .kept) i x ≡ m
-          → Ends (Visits′ o by-effort i x s) (Visits′ o by-depth i x s) (Visits o i x s) (recall g line v l i x (spent n s) m)
-      unfolding recall keep
-      of-recall o i x n s (some r) f e = λ li u w.
-          record { plain = w .right i x r e; inv = record { right = w .right; inside = w .inside; distinct = w .distinct }; count = omega arith }
-      of-recall o i x n s none f e =
-          let q : List ℕ = code L i x ∷ o in
-          let t : State = spent n s in
-          ends-after _ _ (keep i x) (walk (laws q) (v l) (hv q) (useRule g line keeps v l) (of-use q) i x t)
-          (λ t′ h li u w. let z = h li (under-open o i x u) (enter o i x n s li u e w) in omega arith)
-          (λ t′ h li u w. let z = h li (under-open o i x u) (enter o i x n s li u e w) in omega arith)
-          (λ r t′ h li u w. let k = h li (under-open o i x u) (enter o i x n s li u e w) in
-          let z = k .count in
-          record { plain = k .plain; inv = leave o i x r t′ (u .inside) (k .plain) (k .inv); count = omega arith })
+      -- w visits in place.
+      module _ (w : List Note → Visit)
+          (hw : (o : List ℕ) (i x : ℕ) (s : State) → Ends (Visits′ o by-effort i x s) (Visits′ o by-depth i x s) (Visits o i x s) (w l i x s)) where
+        -- A visit with n left after it, of a pair that is kept or not.
+        of-recall : (o : List ℕ) (i x n : ℕ) (s : State) (m : Option Answer) → s .left ≡ suc n → look (s .kept) i x ≡ m
+            → Ends (Visits′ o by-effort i x s) (Visits′ o by-depth i x s) (Visits o i x s) (recall g line v w l i x (spent n s) m)
+        unfolding recall keep
+        of-recall o i x n s (some r) f e = λ li u c.
+            record { plain = c .right i x r e; inv = record { right = c .right; inside = c .inside; distinct = c .distinct }; count = omega arith }
+        of-recall o i x n s none f e =
+            let q : List ℕ = code L i x ∷ o in
+            let t : State = spent n s in
+            ends-after _ _ (keep i x) (walk (laws q) (v l) (hv q) (w l) (hw q) (useRule g line keeps v l) (of-use q) i x t)
+            (λ t′ h li u c. let z = h li (under-open o i x u) (enter o i x n s li u e c) in omega arith)
+            (λ t′ h li u c. let z = h li (under-open o i x u) (enter o i x n s li u e c) in omega arith)
+            (λ r t′ h li u c. let k = h li (under-open o i x u) (enter o i x n s li u e c) in
+            let z = k .count in
+            record { plain = k .plain; inv = leave o i x r t′ (u .inside) (k .plain) (k .inv); count = omega arith })
+
+      of-place : (f : ℕ) (o : List ℕ) (i x : ℕ) (s : State)
+          → Ends (Visits′ o by-effort i x s) (Visits′ o by-depth i x s) (Visits o i x s) (inPlace g line keeps f v l i x s)
+      unfolding inPlace visited
+      of-place zero o i x s = hv o i x s
+      of-place (suc f) o i x s =
+          let w : List Note → Visit = inPlace g line keeps f v in
+          ends-counted _ _ _ (s .left) x s (visited g line keeps v w l i x) (λ e li u c. let z = room o s c in omega arith)
+          (λ n e. of-recall w (of-place f) o i x n s (look (s .kept) i x) e refl)
 
     of-visit : (d : ℕ) (l : List Note) (o : List ℕ) (i x : ℕ) (s : State)
         → Ends (Visits′ o by-effort i x s) (Visits′ o by-depth i x s) (Visits o i x s) (visit g line keeps d l i x s)
-    unfolding visit visited
+    unfolding visit
     of-visit zero l o i x s =
         ends-counted _ _ _ (s .left) x s (λ t. deep x s) (λ e li u w. let z = room o s w in omega arith) (λ n e li u w. let z = room o s w in omega arith)
-    of-visit (suc d) l o i x s =
-        ends-counted _ _ _ (s .left) x s (visited g line keeps (visit g line keeps d) l i x) (λ e li u w. let z = room o s w in omega arith)
-        (λ n e. of-recall (visit g line keeps d) l (of-visit d l) o i x n s (look (s .kept) i x) e refl)
+    of-visit (suc d) l o i x s = of-place (visit g line keeps d) l (of-visit d l) (s .left) o i x s
 
     -- Where the plain rules answer the use of rule 0 at 0.
     module _ (rule-0 : 0 < length (g .roots)) {answer : Answer} (answered : Plain g line (rule 0) 0 answer) (allowance : ℕ) where

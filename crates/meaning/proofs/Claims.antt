@@ -25,6 +25,7 @@ use Rattle.meaning.proofs.Reached.{met-root}
 use Rattle.meaning.proofs.Needed.{Enough, Spares, reads-turn}
 use Rattle.meaning.proofs.Free.{total}
 use Rattle.meaning.proofs.Effort.{effort-left}
+use Rattle.meaning.proofs.Older.{olderBy, as-older, EndsSo, ends-so}
 use Rattle.meaning.proofs.Furthest.{furthest-inside}
 use Rattle.meaning.proofs.Ceiling.{visits-at-most, never-effort}
 use Rattle.meaning.proofs.Decided.{recursive-iff, free-iff}
@@ -163,6 +164,16 @@ module _ (g : Grammar) (line : List ℕ) where
                 (let c = ap (λ (a : Amount). a .furthest) (one-reading g line (leftRecursive g) (w .1) (k .1) .count) in let d = w .2 .furthest in omega arith),
                 (let c = ap (λ (a : Amount). a .visits) (one-reading g line (leftRecursive g) (w .1) (k .1) .count) in let d = w .2 .visits in omega arith),
               )))
+
+    -- 02, W-208: the reading of before, in which a repetition's next visit of itself opened one visit more.
+    abbrev pub readNested : Run
+    readNested = olderBy g line (wayOf (isFree g) (leftRecursive g)) allowance
+
+    -- Where that one was done, this one is, with the same answer and in the same state: visits, furthest position and what is kept. Where that one was refused for
+    -- effort, so is this one, at the same place; and this one is refused for depth only where that one was.
+    pub as-nested : EndsSo readNested (read g line allowance)
+    unfolding read
+    as-nested = ends-so (as-older g line (wayOf (isFree g) (leftRecursive g)) allowance)
 
     -- Both ways at once: a reading that is done, of whatever grammar, has the bounded rules' answer, and only that, and the furthest position of their reading.
     pub read-bounded : All (λ r t. (n : Amount) × Only (leftRecursive g) r n × (t .furthest ≡ n .furthest)) (read g line allowance)

@@ -1,7 +1,7 @@
 -- Where the bounded rules answer in n visits, a reading that keeps nothing and has n visits gives that answer in n visits, whichever rules become live; it is refused
 -- for depth only if more of them are open at once than may be.
 use mathlib.Core.Path.{_≡_, refl, sym, subst, ap}
-use Prim.Native.Nat.{ℕ, zero, suc, _+_, _<_, _≤_}
+use Prim.Native.Nat.{ℕ, zero, suc, _+_, _-_, _<_, _≤_}
 use mathlib.Core.Bool.{Bool, true, false}
 use mathlib.Core.List.{List, []}
 use mathlib.Core.Option.{none, some}
@@ -10,10 +10,11 @@ use native.Mathlib.Omega.{arith}
 use Rattle.meaning.specs.Grammar.{Node, rule, Grammar, node, rootOf, root, Trees, Answer, fail, ok, wrap, Note, noted, look}
 use Rattle.meaning.specs.Reading.{State, starting, spent, Run, deep, done, after, byte, joined, second, otherwise, denied, repeatFrom, repeated, apply}
 use Rattle.meaning.specs.Reading.{wrapped, longer, attempted, grow, firstAttempt, useLive, Way, grows, useBy, useRule, visited, visit, readBy}
-use Rattle.meaning.specs.Rules.{Goal, at, inc, Amount, nothing, asking, _⊕_, visiting, Bounded, Reads}
+use Rattle.meaning.specs.Rules.{Goal, at, inc, Amount, nothing, asking, _⊕_, visiting, inPlace, Bounded, Reads}
 use Rattle.meaning.specs.Rules as R
 use Rattle.meaning.proofs.Runs.{Ends, All, ends-after, ends-map, ends-counted, all-map}
 use Rattle.meaning.proofs.OneBounded.{unvisit, one-reading}
+use Rattle.meaning.proofs.InPlace.{visit-open}
 use Rattle.meaning.proofs.Sound.{read-sound}
 
 -- The run is not refused for effort, and for depth only if it needs more than d visits open at once, which are o; else it answers r and makes n of the visits left.
@@ -31,6 +32,10 @@ then {d = d} {left′ = left′} {n′ = n′} {o′ = o′} {r′ = r′} {m = 
 
 last : {d left n o left′ n′ o′ : ℕ} {r : Answer} {m : Run} → Gives d left n o r m → o ≤ o′ → ((t : State) → left ≡ n + t .left → left′ ≡ n′ + t .left) → Gives d left′ n′ o′ r m
 last {m = m} h le f = record { ends = ends-map m (h .ends) (λ s z. z) (λ s z. omega arith) (λ q t w. (w .0, f t (w .1))) }
+
+-- In place: one less is open than there would be below.
+in-place : {d left n o : ℕ} {r : Answer} {m : Run} → Gives (suc d) left n o r m → Gives d left n (o - 1) r m
+in-place {m = m} h = record { ends = ends-map m (h .ends) (λ s z. z) (λ s z. omega arith) (λ q t w. w) }
 
 module _ (g : Grammar) (line : List ℕ) (live : ℕ → Bool) where
   -- The way: nothing is kept.
@@ -71,7 +76,7 @@ module _ (g : Grammar) (line : List ℕ) (live : ℕ → Bool) where
   -- The same of node p's application, and of a use of rule a, once the visit that it is has been counted.
   abbrev Applies : List Note → Node → ℕ → Answer → Amount → Type 0
   Applies l p x r n = (d i : ℕ) (s : State) → node g i ≡ p → n .visits ≤ s .left
-      → Gives d (s .left) (n .visits) (n .depth) r (apply line (visit g line way d l) (useRule g line way (visit g line way d) l) i x s p)
+      → Gives d (s .left) (n .visits) (n .depth) r (apply line (visit g line way d l) (visit g line way (suc d) l) (useRule g line way (visit g line way d) l) i x s p)
 
   abbrev Uses : List Note → ℕ → ℕ → Answer → Amount → Type 0
   Uses l a x r n = (d : ℕ) (s : State) → n .visits ≤ s .left → Gives d (s .left) (n .visits) (n .depth) r (useRule g line way (visit g line way d) l a x s)
@@ -80,14 +85,14 @@ module _ (g : Grammar) (line : List ℕ) (live : ℕ → Bool) where
   enter : (l : List Note) (x : ℕ) {p : Node} (n : Amount) {r : Answer} → Applies l p x r n → Comes l (at p) x r (visiting n)
   unfolding visit visited
   enter l x n h zero i s e le = record { ends = ends-counted _ _ _ (s .left) x s (λ t. deep x s) (λ z. omega arith) (λ m z. omega arith) }
-  enter l x {p} n {r} h (suc d) i s e le =
-      record {
-        ends = ends-counted _ _ _ (s .left) x s (visited g line way (visit g line way d) l i x) (λ z. omega arith)
+  enter l x {p} n {r} h (suc d) i s e le = subst (Gives (suc d) (s .left) (suc (n .visits)) (suc (n .depth)) r) (sym (visit-open g line way d l i x s))
+      (record {
+        ends = ends-counted _ _ _ (s .left) x s (visited g line way (visit g line way d) (visit g line way (suc d)) l i x) (λ z. omega arith)
             (λ m z. let t : State = spent m s in
-            let v = visit g line way d in
-            let j : Gives d m (n .visits) (n .depth) r (apply line (v l) (useRule g line way v l) i x t (node g i)) = subst (λ w. Gives d m (n .visits) (n .depth) r (apply line (v l) (useRule g line way v l) i x t w)) (sym e) (h d i t e (omega arith)) in
-            ends-map (apply line (v l) (useRule g line way v l) i x t (node g i)) (j .ends) (λ u y. y) (λ u y. omega arith) (λ q u w. (w .0, let c = w .1 in omega arith)));
-      }
+            let here : Node → Run = apply line (visit g line way d l) (visit g line way (suc d) l) (useRule g line way (visit g line way d) l) i x t in
+            let j : Gives d m (n .visits) (n .depth) r (here (node g i)) = subst (λ w. Gives d m (n .visits) (n .depth) r (here w)) (sym e) (h d i t e (omega arith)) in
+            ends-map (here (node g i)) (j .ends) (λ u y. y) (λ u y. omega arith) (λ q u w. (w .0, let c = w .1 in omega arith)));
+      })
 
   of-var : (l : List Note) (a x : ℕ) (n : Amount) {r : Answer} → live a ≡ false → Comes l (at (root g a)) x r n → Uses l a x (wrap a x r) n
   unfolding useBy wrapped
@@ -136,8 +141,8 @@ module _ (g : Grammar) (line : List ℕ) (live : ℕ → Bool) where
   complete (R.not2 {n = n} h) = enter _ _ n (λ d i s e le. then _ (complete h d _ s refl le) (omega arith) (λ t z. now z))
   complete (R.rep1 {n = n} h) = enter _ _ n (λ d i s e le. then _ (complete h d _ s refl le) (omega arith) (λ t z. now z))
   complete (R.rep2 {x = x} {y = y} {n = n} {m = m} h q k) =
-      enter _ _ (n ⊕ m) (λ d i s e le. then _ (complete h d _ s refl (omega arith)) (omega arith)
-      (λ t z. rw (ne-eqb x y q) (then _ (complete k d _ t e (omega arith)) (omega arith) (λ u w. now (omega arith)))))
+      enter _ _ (n ⊕ inPlace m) (λ d i s e le. then _ (complete h d _ s refl (omega arith)) (omega arith)
+      (λ t z. rw (ne-eqb x y q) (then _ (in-place (complete k (suc d) _ t e (omega arith))) (omega arith) (λ u w. now (omega arith)))))
   complete (R.rep3 {x = x} {n = n} h) = enter _ _ n (λ d i s e le. then _ (complete h d _ s refl le) (omega arith) (λ t z. rw (eq-eqb x x refl) (now z)))
   complete (R.var {n = n} w h) = enter _ _ n (λ d i s e. of-var _ _ _ n w (complete h) d s)
   complete (R.lvar1 {n = n} {m = m} w o h k) = enter _ _ (n ⊕ m) (λ d i s e. of-lvar1 _ _ _ n m w o (complete h) (complete k) d s)

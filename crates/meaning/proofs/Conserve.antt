@@ -8,7 +8,7 @@ use mathlib.Core.List.{List, []}
 use mathlib.Core.Option.{Option, none, some}
 use native.Mathlib.Omega.{arith}
 use Rattle.meaning.specs.Grammar.{Node, rule, Grammar, root, Answer, fail, ok, wrap, Note, noted, look}
-use Rattle.meaning.specs.Rules.{at, Plain, furthestOf, Amount, nothing, asking, _⊕_, visiting, Bounded, everyRule, Reads}
+use Rattle.meaning.specs.Rules.{at, Plain, furthestOf, Amount, nothing, asking, _⊕_, visiting, inPlace, Bounded, everyRule, Reads}
 use Rattle.meaning.specs.Rules as R
 use Rattle.meaning.proofs.Answers.{found}
 use Rattle.meaning.proofs.OnePlain.{height, det}
@@ -63,12 +63,16 @@ module _ (g : Grammar) (line : List ℕ) (live : ℕ → Bool) where
     of-var true w i = of-use w (look l a x) refl (λ q. i (noted a x q l) (under q))
     of-var false w i = let k = i l (part l (height g line h) f) in (visiting (k .0), R.var w (k .1), k .2)
 
-  -- A part, and two parts.
+  -- A part, two parts, and two of which the second is made in place.
   one : {l : List Note} {p q : Node} {x y : ℕ} {r s : Answer} {f : ℕ} (h : Some l p x r f) → Bounded g line live l (at q) y s (visiting (h .0)) → Some l q y s f
   one h d = (visiting (h .0), d, h .2)
 
   two : {l : List Note} {p q w : Node} {x y z : ℕ} {r s t : Answer} {f e : ℕ} (h : Some l p x r f) (k : Some l q y s e) → Bounded g line live l (at w) z t (visiting (h .0 ⊕ k .0)) → Some l w z t (max f e)
   two h k d = (visiting (h .0 ⊕ k .0), d, ap₂ max (h .2) (k .2))
+
+  in-turn : {l : List Note} {p q w : Node} {x y z : ℕ} {r s t : Answer} {f e : ℕ} (h : Some l p x r f) (k : Some l q y s e) → Bounded g line live l (at w) z t (visiting (h .0 ⊕ inPlace (k .0)))
+      → Some l w z t (max f e)
+  in-turn h k d = (visiting (h .0 ⊕ inPlace (k .0)), d, ap₂ max (h .2) (k .2))
 
   conserve : {p : Node} {x : ℕ} {r : Answer} (d : Plain g line p x r) (l : List Note) → Above l (height g line d) → Some l p x r (furthestOf d)
   conserve R.empty1 l f = (visiting nothing, R.empty1, refl)
@@ -83,7 +87,7 @@ module _ (g : Grammar) (line : List ℕ) (live : ℕ → Bool) where
   conserve (R.not1 h) l f = let i = conserve h l (part l (height g line h) f) in one i (R.not1 (i .1))
   conserve (R.not2 h) l f = let i = conserve h l (part l (height g line h) f) in one i (R.not2 (i .1))
   conserve (R.rep1 h) l f = let i = conserve h l (part l (height g line h) f) in one i (R.rep1 (i .1))
-  conserve (R.rep2 h q k) l f = let i = conserve h l (first l (height g line h) (height g line k) f) in let j = conserve k l (second l (height g line h) (height g line k) f) in two i j (R.rep2 (i .1) q (j .1))
+  conserve (R.rep2 h q k) l f = let i = conserve h l (first l (height g line h) (height g line k) f) in let j = conserve k l (second l (height g line h) (height g line k) f) in in-turn i j (R.rep2 (i .1) q (j .1))
   conserve (R.rep3 h) l f = let i = conserve h l (part l (height g line h) f) in one i (R.rep3 (i .1))
 
   -- With nothing live. The furthest position is the plain derivation's.

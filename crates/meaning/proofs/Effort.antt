@@ -7,13 +7,13 @@ use mathlib.Core.Option.{Option, none, some}
 use lib.Dec.{ltb}
 use native.Mathlib.Omega.{arith}
 use Rattle.meaning.specs.Grammar.{Node, Grammar, rootOf, Trees, Answer, fail, ok, Note, noted, look}
-use Rattle.meaning.specs.Reading.{State, starting, spent, Run, Visit, after, wrapped, longer, attempted, grow, firstAttempt, useLive, keep, Way, keeps, grows, becomesLive, useBy, useRule, recall, visited, visit, readBy}
+use Rattle.meaning.specs.Reading.{State, starting, spent, Run, Visit, after, wrapped, longer, attempted, grow, firstAttempt, useLive, keep, Way, keeps, grows, becomesLive, useBy, useRule, recall, visited, inPlace, visit, readBy}
 use Rattle.meaning.proofs.Runs.{Ends, ends-after, ends-map, ends-counted}
 use Rattle.meaning.proofs.Walk as W
 use Rattle.meaning.proofs.Walk.{Leaf, Refusal, by-effort, by-depth, Laws, walk}
 
 -- What is left where a run that has n visits is refused.
-abbrev Refused : ℕ → Refusal → State → Type 0
+abbrev pub Refused : ℕ → Refusal → State → Type 0
 Refused n by-effort t = t .left ≡ 0
 Refused n by-depth t = (0 < t .left) × (t .left ≤ n)
 
@@ -21,7 +21,7 @@ Refused n by-depth t = (0 < t .left) × (t .left ≤ n)
 abbrev Spends : ℕ → Run → Type 0
 Spends n m = Ends (Refused n by-effort) (Refused n by-depth) (λ r t. t .left ≤ n) m
 
-abbrev Visits : ℕ → Run → Type 0
+abbrev pub Visits : ℕ → Run → Type 0
 Visits n m = Ends (Refused n by-effort) (Refused n by-depth) (λ r t. t .left < n) m
 
 less : (n m : ℕ) → n ≤ m → (why : Refusal) (t : State) → Refused n why t → Refused m why t
@@ -68,16 +68,16 @@ module _ (g : Grammar) (line : List ℕ) where
   stays (W.char1 q) = omega arith
   stays (W.char2 q) = omega arith
 
-  laws : Laws g line (λ i x s r t. t .left < s .left) (λ a x s r t. t .left ≤ s .left) (λ i x s r t. t .left ≤ s .left)
-      (λ why i x s. Refused (s .left) why) (λ why a x s. Refused (s .left) why) (λ why i x s. Refused (s .left) why)
+  laws : Laws g line (λ p i x s r t. t .left < s .left) (λ a x s r t. t .left ≤ s .left) (λ i x s r t. t .left ≤ s .left)
+      (λ p why i x s. Refused (s .left) why) (λ why a x s. Refused (s .left) why) (λ why i x s. Refused (s .left) why)
   laws = record {
     leaf = λ i x r s t w. stays w;
     uses = λ i a x r s t e h. h;
     one = λ i x a r q s t f c h. omega arith;
-    two = λ i x a b y r q w s t u f c h k. omega arith;
+    two = λ i x a b y p r q w s t u f c h k. omega arith;
     uses-refused = λ why i a x s t e h. h;
     one-refused = λ why i x a s t f h. h;
-    two-refused = λ why i x a b y r w s t u f c h k. less (t .left) (s .left) (omega arith) why u k;
+    two-refused = λ why i x a b y p r w s t u f c h k. less (t .left) (s .left) (omega arith) why u k;
   }
 
   module _ (v : List Note → Visit) (hv : (l : List Note) (i x : ℕ) (s : State) → Visits (s .left) (v l i x s)) where
@@ -89,24 +89,32 @@ module _ (g : Grammar) (line : List ℕ) where
     of-use : (way : Way) (l : List Note) (a x : ℕ) (s : State) → Spends (s .left) (useRule g line way v l a x s)
     of-use way l a = of-by (becomesLive way a) l a
 
-    of-recall : (l : List Note) (i x : ℕ) (s : State) (o : Option Answer) → Spends (s .left) (recall g line v l i x s o)
-    unfolding recall keep
-    of-recall l i x s (some r) = omega arith
-    of-recall l i x s none = ends-after _ _ (keep i x) (walk laws (v l) (hv l) (useRule g line keeps v l) (of-use keeps l) i x s) (λ u h. h) (λ u h. h) (λ r u h. h)
+    -- w visits in place.
+    module _ (w : List Note → Visit) (hw : (l : List Note) (i x : ℕ) (s : State) → Visits (s .left) (w l i x s)) where
+      of-recall : (l : List Note) (i x : ℕ) (s : State) (o : Option Answer) → Spends (s .left) (recall g line v w l i x s o)
+      unfolding recall keep
+      of-recall l i x s (some r) = omega arith
+      of-recall l i x s none =
+          ends-after _ _ (keep i x) (walk laws (v l) (hv l) (w l) (hw l) (useRule g line keeps v l) (of-use keeps l) i x s) (λ u h. h) (λ u h. h) (λ r u h. h)
 
-    of-visited : (way : Way) (l : List Note) (i x : ℕ) (s : State) → Spends (s .left) (visited g line way v l i x s)
-    unfolding visited
-    of-visited keeps l i x s = of-recall l i x s (look (s .kept) i x)
-    of-visited (grows live) l i x s = walk laws (v l) (hv l) (useRule g line (grows live) v l) (of-use (grows live) l) i x s
+      of-visited : (way : Way) (l : List Note) (i x : ℕ) (s : State) → Spends (s .left) (visited g line way v w l i x s)
+      unfolding visited
+      of-visited keeps l i x s = of-recall l i x s (look (s .kept) i x)
+      of-visited (grows live) l i x s = walk laws (v l) (hv l) (w l) (hw l) (useRule g line (grows live) v l) (of-use (grows live) l) i x s
 
-  of-visit : (way : Way) (d : ℕ) (l : List Note) (i x : ℕ) (s : State) → Visits (s .left) (visit g line way d l i x s)
+    of-place : (way : Way) (f : ℕ) (l : List Note) (i x : ℕ) (s : State) → Visits (s .left) (inPlace g line way f v l i x s)
+    unfolding inPlace
+    of-place way zero l i x s = hv l i x s
+    of-place way (suc f) l i x s =
+        let w : List Note → Visit = inPlace g line way f v in
+        ends-counted _ _ _ (s .left) x s (visited g line way v w l i x) (λ e. e)
+        (λ n e. let t : State = spent n s in
+        ends-map (visited g line way v w l i x t) (of-visited w (of-place way f) way l i x t) (λ u h. h) (λ u h. omega arith) (λ r u h. omega arith))
+
+  pub of-visit : (way : Way) (d : ℕ) (l : List Note) (i x : ℕ) (s : State) → Visits (s .left) (visit g line way d l i x s)
   unfolding visit
   of-visit way zero l i x s = ends-counted _ _ _ (s .left) x s (λ t. _) (λ e. e) (λ n e. omega arith)
-  of-visit way (suc d) l i x s =
-      let v : List Note → Visit = visit g line way d in
-      ends-counted _ _ _ (s .left) x s (visited g line way v l i x) (λ e. e)
-      (λ n e. let t : State = spent n s in
-      ends-map (visited g line way v l i x t) (of-visited v (of-visit way d) way l i x t) (λ u h. h) (λ u h. omega arith) (λ r u h. omega arith))
+  of-visit way (suc d) l i x s = of-place (visit g line way d) (of-visit way d) way (s .left) l i x s
 
   pub effort-left : (way : Way) (allowance : ℕ)
       → Ends (λ t. t .left ≡ 0) (λ t. (0 < t .left) × (t .left ≤ allowance)) (λ r t. t .left ≤ allowance) (readBy g line way allowance)

@@ -9,13 +9,13 @@ use lib.ListN.{length}
 use lib.Dec.{ltb}
 use native.Mathlib.Omega.{arith}
 use Rattle.meaning.specs.Grammar.{Node, Grammar, node, rootOf, Trees, Answer, fail, ok, wrap, Note, noted, look}
-use Rattle.meaning.specs.Reading.{State, starting, spent, Run, effort, deep, done, Visit, apply, wrapped, longer, attempted, grow, firstAttempt, useLive, keep, Way, keeps, grows, becomesLive, useBy, useRule, recall, visited, visit, readBy}
+use Rattle.meaning.specs.Reading.{State, starting, spent, Run, effort, deep, done, Visit, apply, wrapped, longer, attempted, grow, firstAttempt, useLive, keep, Way, keeps, grows, becomesLive, useBy, useRule, recall, visited, inPlace, visit, readBy}
 use Rattle.meaning.proofs.Answers.{found}
 use Rattle.meaning.proofs.Notes.{look-cases}
 use Rattle.meaning.proofs.Runs.{Ends, ends-after, ends-map, ends-counted}
 use Rattle.meaning.proofs.Spans.{fits-inside}
 use Rattle.meaning.proofs.Walk as W
-use Rattle.meaning.proofs.Walk.{join, Leaf, Settled, Second, Laws, walk}
+use Rattle.meaning.proofs.Walk.{join, Leaf, Settled, Place, Second, Laws, walk}
 
 module _ (g : Grammar) (line : List ℕ) where
   -- An answer is a failure, or ends inside the line; and so does each that is noted.
@@ -76,7 +76,7 @@ module _ (g : Grammar) (line : List ℕ) where
   settled-in W.rep1 a h = a
   settled-in (W.rep3 e) a h = a
 
-  second-in : {i x b y : ℕ} {p : Node} {r : Answer} {f : Answer → Answer} → Second i x p r b y f → x ≤ length line → EndsIn r → y ≤ length line
+  second-in : {i x b y : ℕ} {k : Place} {p : Node} {r : Answer} {f : Answer → Answer} → Second i x k p r b y f → x ≤ length line → EndsIn r → y ≤ length line
   second-in W.con a h = h
   second-in W.ord a h = a
   second-in (W.rep2 n) a h = h
@@ -85,21 +85,21 @@ module _ (g : Grammar) (line : List ℕ) where
   join-in ts fail h = tt
   join-in ts (ok e us) h = h
 
-  both-in : {i x b y : ℕ} {p : Node} {r : Answer} {f : Answer → Answer} (q : Answer) → Second i x p r b y f → EndsIn q → EndsIn (f q)
+  both-in : {i x b y : ℕ} {k : Place} {p : Node} {r : Answer} {f : Answer → Answer} (q : Answer) → Second i x k p r b y f → EndsIn q → EndsIn (f q)
   both-in q (W.con {ts = ts}) h = join-in ts q h
   both-in q W.ord h = h
   both-in q (W.rep2 {ts = ts} n) h = join-in ts q h
 
-  laws : Laws g line (λ i x s r t. Asks x s → EndsIn r × Within t) (λ a x s r t. Asks x s → EndsIn r × Within t) (λ i x s r t. Asks x s → EndsIn r × Within t)
-      (λ why i x s t. Asks x s → Within t) (λ why a x s t. Asks x s → Within t) (λ why i x s t. Asks x s → Within t)
+  laws : Laws g line (λ p i x s r t. Asks x s → EndsIn r × Within t) (λ a x s r t. Asks x s → EndsIn r × Within t) (λ i x s r t. Asks x s → EndsIn r × Within t)
+      (λ p why i x s t. Asks x s → Within t) (λ why a x s t. Asks x s → Within t) (λ why i x s t. Asks x s → Within t)
   laws = record {
     leaf = λ i x r s t w a. leaf-in w a;
     uses = λ i b x r s t e h a. h a;
     one = λ i x b r q s t m n h a. let k = h a in (settled-in n (a .0) (k .0), k .1);
-    two = λ i x b c y r q f s t u m n h h′ a. let k = h a in let k′ = h′ (second-in n (a .0) (k .0), k .1) in (both-in q n (k′ .0), k′ .1);
+    two = λ i x b c y p r q f s t u m n h h′ a. let k = h a in let k′ = h′ (second-in n (a .0) (k .0), k .1) in (both-in q n (k′ .0), k′ .1);
     uses-refused = λ why i b x s t e h a. h a;
     one-refused = λ why i x b s t m h a. h a;
-    two-refused = λ why i x b c y r f s t u m n h h′ a. let k = h a in h′ (second-in n (a .0) (k .0), k .1);
+    two-refused = λ why i x b c y p r f s t u m n h h′ a. let k = h a in h′ (second-in n (a .0) (k .0), k .1);
   }
 
   -- v visits a root at x while an answer that ends inside the line is held.
@@ -141,29 +141,38 @@ module _ (g : Grammar) (line : List ℕ) where
     of-use : (way : Way) (a x : ℕ) (s : State) → Asks x s → Stays (useRule g line way v l a x s)
     of-use way a = of-by (becomesLive way a) a
 
-    of-node : (way : Way) (i x : ℕ) (s : State) → Asks x s → Stays (apply line (v l) (useRule g line way v l) i x s (node g i))
-    of-node way i x s w =
-        stays-so (apply line (v l) (useRule g line way v l) i x s (node g i)) w
-        (walk laws (v l) (λ j y t. stays-if (v l j y t) (hv l held j y t)) (useRule g line way v l) (λ a y t. stays-if (useRule g line way v l a y t) (of-use way a y t)) i x s)
+    -- w visits in place.
+    module _ (w : List Note → Visit) (hw : (i x : ℕ) (s : State) → Asks x s → Stays (w l i x s)) where
+      of-node : (way : Way) (i x : ℕ) (s : State) → Asks x s → Stays (apply line (v l) (w l) (useRule g line way v l) i x s (node g i))
+      of-node way i x s a =
+          stays-so (apply line (v l) (w l) (useRule g line way v l) i x s (node g i)) a
+          (walk laws (v l) (λ j y t. stays-if (v l j y t) (hv l held j y t)) (w l) (λ j y t. stays-if (w l j y t) (hw j y t))
+          (useRule g line way v l) (λ b y t. stays-if (useRule g line way v l b y t) (of-use way b y t)) i x s)
 
-    of-recall : (i x : ℕ) (s : State) (o : Option Answer) → look (s .kept) i x ≡ o → Asks x s → Stays (recall g line v l i x s o)
-    unfolding recall keep
-    of-recall i x s (some r) e w = (w .1 .kept i x r e, w .1)
-    of-recall i x s none e w =
-        ends-after _ (apply line (v l) (useRule g line keeps v l) i x s (node g i)) (keep i x) (of-node keeps i x s w) (λ t h. h) (λ t h. h)
-        (λ r t h. (h .0, record { kept = noted-more i x r (t .kept) (h .0) (h .1 .kept); furthest = h .1 .furthest }))
+      of-recall : (i x : ℕ) (s : State) (o : Option Answer) → look (s .kept) i x ≡ o → Asks x s → Stays (recall g line v w l i x s o)
+      unfolding recall keep
+      of-recall i x s (some r) e a = (a .1 .kept i x r e, a .1)
+      of-recall i x s none e a =
+          ends-after _ (apply line (v l) (w l) (useRule g line keeps v l) i x s (node g i)) (keep i x) (of-node keeps i x s a) (λ t h. h) (λ t h. h)
+          (λ r t h. (h .0, record { kept = noted-more i x r (t .kept) (h .0) (h .1 .kept); furthest = h .1 .furthest }))
 
-    of-visited : (way : Way) (i x : ℕ) (s : State) → Asks x s → Stays (visited g line way v l i x s)
-    unfolding visited
-    of-visited keeps i x s w = of-recall i x s (look (s .kept) i x) refl w
-    of-visited (grows live) i x s w = of-node (grows live) i x s w
+      of-visited : (way : Way) (i x : ℕ) (s : State) → Asks x s → Stays (visited g line way v w l i x s)
+      unfolding visited
+      of-visited keeps i x s a = of-recall i x s (look (s .kept) i x) refl a
+      of-visited (grows live) i x s a = of-node (grows live) i x s a
+
+    of-place : (way : Way) (f i x : ℕ) (s : State) → Asks x s → Stays (inPlace g line way f v l i x s)
+    unfolding inPlace
+    of-place way zero i x s a = hv l held i x s a
+    of-place way (suc f) i x s a =
+        let w : List Note → Visit = inPlace g line way f v in
+        ends-counted _ _ _ (s .left) x s (visited g line way v w l i x) (λ e. a .1)
+        (λ n e. of-visited w (of-place way f) way i x (spent n s) (a .0, record { kept = a .1 .kept; furthest = a .1 .furthest }))
 
   of-visit : (way : Way) (d : ℕ) (l : List Note) → NotedIn l → (i x : ℕ) (s : State) → Asks x s → Stays (visit g line way d l i x s)
   unfolding visit
   of-visit way zero l held i x s w = ends-counted _ _ _ (s .left) x s (λ t. deep x s) (λ e. w .1) (λ n e. w .1)
-  of-visit way (suc d) l held i x s w =
-      ends-counted _ _ _ (s .left) x s (visited g line way (visit g line way d) l i x) (λ e. w .1)
-      (λ n e. of-visited (visit g line way d) (of-visit way d) l held way i x (spent n s) (w .0, record { kept = w .1 .kept; furthest = w .1 .furthest }))
+  of-visit way (suc d) l held i x s w = of-place (visit g line way d) (of-visit way d) l held way (s .left) i x s w
 
   -- Of the whole reading.
   pub furthest-inside : (way : Way) (allowance : ℕ)

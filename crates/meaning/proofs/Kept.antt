@@ -9,13 +9,13 @@ use native.Mathlib.Nat.{zero-max}
 use native.Mathlib.Omega.{arith}
 use Rattle.meaning.specs.Grammar.{Node, rule, rep, Grammar, node, rootOf, Answer, fail, ok, Note, noted, look}
 use Rattle.meaning.specs.Rules.{Plain, furthestOf, empty1, char1, char2, var, con1, con2, con3, ord1, ord2, not1, not2, rep1, rep2, rep3}
-use Rattle.meaning.specs.Reading.{State, starting, spent, keeping, Visit, deep, wrapped, keep, keeps, useBy, useRule, recall, visited, visit, readBy}
+use Rattle.meaning.specs.Reading.{State, starting, spent, keeping, Visit, deep, wrapped, keep, keeps, useBy, useRule, recall, visited, inPlace, visit, readBy}
 use Rattle.meaning.proofs.Answers.{never, found}
 use Rattle.meaning.proofs.Conserve.{same-furthest}
 use Rattle.meaning.proofs.Notes.{look-cases}
 use Rattle.meaning.proofs.Runs.{All, all-after, all-map, ends-counted}
 use Rattle.meaning.proofs.Walk as W
-use Rattle.meaning.proofs.Walk.{Leaf, First, Settled, Second, of-seq, of-choice, of-not, of-rep, Refusal, Laws, walk}
+use Rattle.meaning.proofs.Walk.{Leaf, First, Settled, Place, Second, of-seq, of-choice, of-not, of-rep, Refusal, Laws, walk}
 
 module _ (g : Grammar) (line : List ℕ) where
   -- The plain rules, by the visits that a node makes.
@@ -32,7 +32,7 @@ module _ (g : Grammar) (line : List ℕ) where
   rep-matches (rep2 h p k) e = never e
   rep-matches (rep3 h) e = never e
 
-  pub plain-two : {p : Node} {i a b x y : ℕ} {r q : Answer} {f : Answer → Answer} → node g i ≡ p → First p a → Second i x p r b y f
+  pub plain-two : {j : Place} {p : Node} {i a b x y : ℕ} {r q : Answer} {f : Answer → Answer} → node g i ≡ p → First p a → Second i x j p r b y f
       → Plain g line (node g a) x r → Plain g line (node g b) y q → Plain g line p x (f q)
   plain-two {q = fail} e of-seq W.con h k = con2 h k
   plain-two {q = ok z us} e of-seq W.con h k = con1 h k
@@ -82,7 +82,7 @@ module _ (g : Grammar) (line : List ℕ) where
   furthest-one of-rep W.rep1 h = refl
   furthest-one of-rep (W.rep3 e) h = same-furthest g line refl refl (rw (sym e) at h) h
 
-  furthest-two : {p : Node} {i a b x y : ℕ} {r q : Answer} {f : Answer → Answer} (e : node g i ≡ p) (m : First p a) (n : Second i x p r b y f)
+  furthest-two : {j : Place} {p : Node} {i a b x y : ℕ} {r q : Answer} {f : Answer → Answer} (e : node g i ≡ p) (m : First p a) (n : Second i x j p r b y f)
       (h : Plain g line (node g a) x r) (k : Plain g line (node g b) y q) → furthestOf (plain-two e m n h k) ≡ max (furthestOf h) (furthestOf k)
   unfolding plain-two
   furthest-two {q = fail} e of-seq W.con h k = refl
@@ -103,7 +103,7 @@ module _ (g : Grammar) (line : List ℕ) where
     reaches = λ a. let z = k .reaches a in record { asks = z .asks; furthest = rw (furthest-one m n (k .plain)) (z .furthest) };
   }
 
-  then-two : {p : Node} {i a b x y f : ℕ} {ks : List Note} {r q : Answer} {h : Answer → Answer} {t u : State} → node g i ≡ p → First p a → Second i x p r b y h
+  then-two : {j : Place} {p : Node} {i a b x y f : ℕ} {ks : List Note} {r q : Answer} {h : Answer → Answer} {t u : State} → node g i ≡ p → First p a → Second i x j p r b y h
       → Then (node g a) x ks f r t → Then (node g b) y (t .kept) (t .furthest) q u → Then p x ks f (h q) u
   then-two e m n k k′ = record {
     plain = plain-two e m n (k .plain) (k′ .plain);
@@ -129,15 +129,15 @@ module _ (g : Grammar) (line : List ℕ) where
   abbrev Refused : Refusal → ℕ → ℕ → State → State → Type 0
   Refused why i x s t = Unit {0}
 
-  laws : Laws g line Visits Uses Visits Refused Refused Refused
+  laws : Laws g line (λ j. Visits) Uses Visits (λ j. Refused) Refused Refused
   laws = record {
     leaf = λ i x r s t l o. then-leaf l o;
     uses = λ i a x r s t e h o. subst (λ p. Then p x (s .kept) (s .furthest) r t) (sym e) (h o);
     one = λ i x a r q s t m n h o. then-one m n (h o);
-    two = λ i x a b y r q f s t u m n h h′ o. let k = h o in then-two refl m n k (h′ (k .right));
+    two = λ i x a b y j r q f s t u m n h h′ o. let k = h o in then-two refl m n k (h′ (k .right));
     uses-refused = λ why i a x s t e h. tt;
     one-refused = λ why i x a s t m h. tt;
-    two-refused = λ why i x a b y r f s t u m n h k. tt;
+    two-refused = λ why i x a b y j r f s t u m n h k. tt;
   }
 
   module _ (v : List Note → Visit) (l : List Note) (hv : (i x : ℕ) (s : State) → All (Visits i x s) (v l i x s)) where
@@ -145,19 +145,27 @@ module _ (g : Grammar) (line : List ℕ) where
     unfolding useBy wrapped
     of-use a x s = all-after _ (v l (rootOf g a) x s) (wrapped a x) (hv (rootOf g a) x s) (λ r t h o. let k = h o in record { plain = var (k .plain); right = k .right; reaches = k .reaches })
 
-    of-recall : (i x : ℕ) (s : State) (o : Option Answer) → look (s .kept) i x ≡ o → All (Visits i x s) (recall g line v l i x s o)
-    unfolding recall keep
-    of-recall i x s (some r) e = λ o. record { plain = o i x r e; right = o; reaches = λ a. record { asks = a; furthest = omega (arith, a i x r e (o i x r e)) } }
-    of-recall i x s none e =
-        all-after _ _ (keep i x) (walk laws (v l) hv (useRule g line keeps v l) of-use i x s)
-        (λ r t h o. then-keep i (h o))
+    -- w visits in place.
+    module _ (w : List Note → Visit) (hw : (i x : ℕ) (s : State) → All (Visits i x s) (w l i x s)) where
+      of-recall : (i x : ℕ) (s : State) (o : Option Answer) → look (s .kept) i x ≡ o → All (Visits i x s) (recall g line v w l i x s o)
+      unfolding recall keep
+      of-recall i x s (some r) e = λ o. record { plain = o i x r e; right = o; reaches = λ a. record { asks = a; furthest = omega (arith, a i x r e (o i x r e)) } }
+      of-recall i x s none e =
+          all-after _ _ (keep i x) (walk laws (v l) hv (w l) hw (useRule g line keeps v l) of-use i x s)
+          (λ r t h o. then-keep i (h o))
+
+    of-place : (f i x : ℕ) (s : State) → All (Visits i x s) (inPlace g line keeps f v l i x s)
+    unfolding inPlace visited
+    of-place zero i x s = hv i x s
+    of-place (suc f) i x s =
+        let w : List Note → Visit = inPlace g line keeps f v in
+        ends-counted _ _ _ (s .left) x s (visited g line keeps v w l i x) (λ e. tt)
+        (λ n e. of-recall w (of-place f) i x (spent n s) (look (s .kept) i x) refl)
 
   of-visit : (d : ℕ) (l : List Note) (i x : ℕ) (s : State) → All (Visits i x s) (visit g line keeps d l i x s)
-  unfolding visit visited
+  unfolding visit
   of-visit zero l i x s = ends-counted _ _ _ (s .left) x s (λ t. deep x s) (λ e. tt) (λ n e. tt)
-  of-visit (suc d) l i x s =
-      ends-counted _ _ _ (s .left) x s (visited g line keeps (visit g line keeps d) l i x) (λ e. tt)
-      (λ n e. of-recall (visit g line keeps d) l (of-visit d l) i x (spent n s) (look (s .kept) i x) refl)
+  of-visit (suc d) l i x s = of-place (visit g line keeps d) l (of-visit d l) (s .left) i x s
 
   -- One visit, where what is kept is right: it stays so.
   pub visit-plain : (d : ℕ) (l : List Note) (i x : ℕ) (s : State) → Right (s .kept) → All (λ r t. Plain g line (node g i) x r × Right (t .kept)) (visit g line keeps d l i x s)

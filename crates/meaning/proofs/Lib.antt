@@ -10,11 +10,13 @@ pub mod OnePlain
 pub mod Walk
 pub mod Pigeon
 pub mod OneBounded
+pub mod Effort
+pub mod InPlace
+pub mod Older
 pub mod Sound
 pub mod Complete
 pub mod Conserve
 pub mod Kept
-pub mod Effort
 pub mod Spans
 pub mod Furthest
 pub mod Answered

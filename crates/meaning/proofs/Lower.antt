@@ -8,7 +8,7 @@ use Rattle.meaning.specs.Rules.{Plain, var, con1, con2, con3, ord1, ord2
 use Rattle.meaning.proofs.Answers.{ends, never, never′}
 use Rattle.meaning.proofs.OnePlain.{height, one-answer}
 use Rattle.meaning.proofs.Walk as W
-use Rattle.meaning.proofs.Walk.{First, of-seq, of-choice, of-not, of-rep, Second}
+use Rattle.meaning.proofs.Walk.{First, of-seq, of-choice, of-not, of-rep, Place, Second}
 
 module _ (g : Grammar) where
   pub first-below : {i a : ℕ} {p : Node} → First p a → Below g i p → a < i
@@ -17,7 +17,7 @@ module _ (g : Grammar) where
   first-below of-not h = h
   first-below of-rep h = h
 
-  pub second-below : {i x b y : ℕ} {p : Node} {r : Answer} {f : Answer → Answer} → Second i x p r b y f → Below g i p → b ≤ i
+  pub second-below : {i x b y : ℕ} {k : Place} {p : Node} {r : Answer} {f : Answer → Answer} → Second i x k p r b y f → Below g i p → b ≤ i
   second-below W.con h = let z = h .1 in omega arith
   second-below W.ord h = let z = h .1 in omega arith
   second-below (W.rep2 n) h = omega arith
@@ -48,7 +48,7 @@ module _ (g : Grammar) where
     moved : {p q : Node} {x y z h : ℕ} {ts us : Trees} → Plain g line q x (ok y ts) → Plain g line q x (ok z us) → Lower p y h → Lower p z h
     moved {p = p} {h = h} d e l = subst (λ w. Lower p w h) (ends (one-answer g line d e)) l
 
-    pub second-lower : {p : Node} {i a b x y : ℕ} {r q : Answer} {f : Answer → Answer} → node g i ≡ p → First p a → Second i x p r b y f → Plain g line (node g a) x r
+    pub second-lower : {k : Place} {p : Node} {i a b x y : ℕ} {r q : Answer} {f : Answer → Answer} → node g i ≡ p → First p a → Second i x k p r b y f → Plain g line (node g a) x r
         → (d : Plain g line p x q) → Lower (node g b) y (height g line d)
     second-lower e of-seq W.con m (con1 h k) = moved h m (record { answer = _; rules = k; less = omega arith })
     second-lower e of-seq W.con m (con2 h k) = moved h m (record { answer = _; rules = k; less = omega arith })

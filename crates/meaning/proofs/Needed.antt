@@ -10,7 +10,7 @@ use mathlib.Core.Option.{none, some}
 use lib.ListN.{length}
 use native.Mathlib.Omega.{arith}
 use Rattle.meaning.specs.Grammar.{Node, rule, seq, choice, not, rep, Grammar, node, rootOf, root, Below, Closed, Trees, Answer, fail, ok, wrap, Note, noted, look}
-use Rattle.meaning.specs.Rules.{Goal, at, inc, Amount, nothing, asking, _⊕_, visiting, Bounded, everyRule, Reads}
+use Rattle.meaning.specs.Rules.{Goal, at, inc, Amount, nothing, asking, _⊕_, visiting, inPlace, Bounded, everyRule, Reads}
 use Rattle.meaning.specs.Rules as R
 use Rattle.meaning.specs.Report.{Starts, by-not, by-rep, by-choice, by-other, by-first, by-second, by-rule, Leads, here, on, to-second, Reachable, start, LeftRecursive}
 use Rattle.meaning.proofs.Answers.{ends, never, clash, found}
@@ -46,6 +46,9 @@ spares-both h k =
     let c = h .depth in
     let d = k .depth in
     record { visits = omega arith; furthest = omega arith; depth = omega arith }
+
+spares-in-place : {n m : Amount} → Spares n m → Spares (inPlace n) (inPlace m)
+spares-in-place h = let d = h .depth in record { visits = h .visits; furthest = h .furthest; depth = omega arith }
 
 -- One attempt in the place of two that get equally far and deep.
 spares-second : {n m : Amount} (o : Amount) → Spares n m → o .furthest ≡ n .furthest → o .depth ≡ n .depth → Spares n (m ⊕ o)
@@ -90,13 +93,17 @@ module _ (g : Grammar) (line : List ℕ) (good : Closed g) (live : ℕ → Bool)
     pub rules : Bounded g line live m p x r amount
     pub spares : Spares amount n
 
-  -- A part, and two parts.
+  -- A part, two parts, and two of which the second is made in place.
   one : {m : List Note} {p q : Node} {x y : ℕ} {r s : Answer} {n : Amount} (h : Turns m (at p) x r n) → Bounded g line live m (at q) y s (visiting (h .amount)) → Turns m (at q) y s (visiting n)
   one h d = record { amount = visiting (h .amount); rules = d; spares = spares-visit (h .spares) }
 
   two : {m : List Note} {p q w : Node} {x y z : ℕ} {r s t : Answer} {n o : Amount} (h : Turns m (at p) x r n) (k : Turns m (at q) y s o)
       → Bounded g line live m (at w) z t (visiting (h .amount ⊕ k .amount)) → Turns m (at w) z t (visiting (n ⊕ o))
   two h k d = record { amount = visiting (h .amount ⊕ k .amount); rules = d; spares = spares-visit (spares-both (h .spares) (k .spares)) }
+
+  in-turn : {m : List Note} {p q w : Node} {x y z : ℕ} {r s t : Answer} {n o : Amount} (h : Turns m (at p) x r n) (k : Turns m (at q) y s o)
+      → Bounded g line live m (at w) z t (visiting (h .amount ⊕ inPlace (k .amount))) → Turns m (at w) z t (visiting (n ⊕ inPlace o))
+  in-turn h k d = record { amount = visiting (h .amount ⊕ inPlace (k .amount)); rules = d; spares = spares-visit (spares-both (h .spares) (spares-in-place (k .spares))) }
 
   leaf : {m : List Note} {p : Node} {x : ℕ} {r : Answer} (n : Amount) → Bounded g line live m (at p) x r n → Turns m (at p) x r n
   leaf n d = record { amount = n; rules = d; spares = spares-same n }
@@ -241,7 +248,7 @@ module _ (g : Grammar) (line : List ℕ) (good : Closed g) (live : ℕ → Bool)
       let f = spans g line h (c .held) .forward in
       let ne : x ≢ y = q in
       let e = becomes k m i li u t (comes-past c (omega arith)) in
-      two d e (R.rep2 (d .rules) q (e .rules))
+      in-turn d e (R.rep2 (d .rules) q (e .rules))
   becomes (R.rep3 {a = a} h) = λ m i li u t c.
       let la : a < i = u in
       let d = becomes h m a (omega arith) (good .nodes a (omega arith)) (met-start g by-rep t) (comes-by c by-rep) in

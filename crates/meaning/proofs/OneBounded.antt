@@ -6,7 +6,7 @@ use mathlib.Core.Bool.{Bool}
 use mathlib.Core.List.{List}
 use native.Mathlib.Omega.{arith}
 use Rattle.meaning.specs.Grammar.{rep, Grammar, Trees, Answer, fail, ok, wrap, Note}
-use Rattle.meaning.specs.Rules.{Goal, at, inc, Amount, _⊕_, visiting, Bounded, Reads, empty1, char1, char2, con1, con2, con3, ord1, ord2, not1, not2, rep1, rep2, rep3, var, lvar1, lvar2, lvar3, inc1, inc2, inc3}
+use Rattle.meaning.specs.Rules.{Goal, at, inc, Amount, _⊕_, visiting, inPlace, Bounded, Reads, empty1, char1, char2, con1, con2, con3, ord1, ord2, not1, not2, rep1, rep2, rep3, var, lvar1, lvar2, lvar3, inc1, inc2, inc3}
 use Rattle.meaning.proofs.Answers.{Same, ends, trees, never, never′, clash, found, held, joined, step, steps}
 
 -- A child's match ends in one place, so it is not both at its start and elsewhere, nor both longer than what is held and not.
@@ -19,6 +19,10 @@ grows {f = f} {f′ = f′} i p q = let z : f ≡ f′ = ends i in absurd (omega
 -- A visit with two others made for it.
 abbrev together : Amount → Amount → Amount
 together n m = visiting (n ⊕ m)
+
+-- A visit with one made for it and another in its place.
+abbrev in-turn : Amount → Amount → Amount
+in-turn n m = visiting (n ⊕ inPlace m)
 
 pub same-amount : {n m : Amount} → n .visits ≡ m .visits → n .furthest ≡ m .furthest → n .depth ≡ m .depth → n ≡ m
 same-amount {n = n} {m = m} v f d =
@@ -65,7 +69,7 @@ module _ (g : Grammar) (line : List ℕ) (live : ℕ → Bool) where
   det (rep1 h) (rep2 k q k′) = never′ (det h k .answer)
   det (rep1 h) (rep3 k) = never′ (det h k .answer)
   det (rep2 h p h′) (rep1 k) = never (det h k .answer)
-  det (rep2 h p h′) (rep2 k q k′) = let i = det h k in let j = det h′ (move (i .answer) k′) in steps together (joined (i .answer) (j .answer)) i j
+  det (rep2 h p h′) (rep2 k q k′) = let i = det h k in let j = det h′ (move (i .answer) k′) in steps in-turn (joined (i .answer) (j .answer)) i j
   det (rep2 h p h′) (rep3 k) = stays (det h k .answer) p
   det (rep3 h) (rep1 k) = never (det h k .answer)
   det (rep3 h) (rep2 k q k′) = stays (sym (det h k .answer)) q

@@ -10,13 +10,14 @@ use mathlib.Core.Option.{Option, none, some}
 use lib.Dec.{ltb}
 use borrow.Author.Tests.{ltb-true, ltb-false}
 use Rattle.meaning.specs.Grammar.{Node, rule, Grammar, node, rootOf, root, Trees, Answer, fail, ok, Note, noted, look}
-use Rattle.meaning.specs.Reading.{State, starting, spent, Run, Visit, wrapped, longer, attempted, grow, firstAttempt, useLive, Way, grows, useBy, useRule, visited, visit, readBy}
+use Rattle.meaning.specs.Reading.{State, starting, spent, Run, Visit, wrapped, longer, attempted, grow, firstAttempt, useLive, Way, grows, useBy, useRule, visited, inPlace, visit, readBy}
 use Rattle.meaning.specs.Rules.{Goal, at, inc, Amount, nothing, asking, _⊕_, visiting, Bounded, Reads, empty1, char1, char2, con1, con2, con3, ord1, ord2, not1, not2, rep1, rep2, rep3, var, lvar1, lvar2, lvar3, inc1, inc2, inc3}
+use Rattle.meaning.specs.Rules as R
 use Rattle.meaning.proofs.Runs.{All, all-after, all-map, ends-counted}
 use Rattle.meaning.proofs.Amounts.{Amounts, amounts, Spends, spends-nothing, spends-asking, spends-both, spends-visit}
 use Rattle.meaning.proofs.OneBounded.{rep-matches}
 use Rattle.meaning.proofs.Walk as W
-use Rattle.meaning.proofs.Walk.{Leaf, First, Settled, Second, of-seq, of-choice, of-not, of-rep, Refusal, Laws, walk}
+use Rattle.meaning.proofs.Walk.{Leaf, First, Settled, Place, below, own, Second, of-seq, of-choice, of-not, of-rep, Refusal, Laws, walk}
 
 module _ (g : Grammar) (line : List ℕ) (live : ℕ → Bool) where
   -- The way: nothing is kept.
@@ -32,8 +33,25 @@ module _ (g : Grammar) (line : List ℕ) (live : ℕ → Bool) where
   bounded-one of-rep W.rep1 h = rep1 h
   bounded-one of-rep (W.rep3 e) h = rep3 (rw (sym e) at h)
 
-  bounded-two : {l : List Note} {p : Node} {i a b x y : ℕ} {n m : Amount} {r q : Answer} {f : Answer → Answer} → node g i ≡ p → First p a → Second i x p r b y f
-      → Bounded g line live l (at (node g a)) x r n → Bounded g line live l (at (node g b)) y q m → Bounded g line live l (at p) x (f q) (visiting (n ⊕ m))
+  -- What a second visit that amounts to m adds, by its place; and how many visits may be open with it where d may be with a first one.
+  abbrev added : Place → Amount → Amount
+  added below m = m
+  added own m = R.inPlace m
+
+  abbrev open-at : Place → ℕ → ℕ
+  open-at below d = d
+  open-at own d = suc d
+
+  spends-added : (j : Place) {m : Amount} {s t : State} → Spends m s t → Spends (added j m) s t
+  spends-added below h = h
+  spends-added own h = record { left = h .left; furthest = h .furthest }
+
+  within-added : (j : Place) (d : ℕ) (m : Amount) → m .depth ≤ open-at j d → added j m .depth ≤ d
+  within-added below d m le = le
+  within-added own d m le = omega arith
+
+  bounded-two : {l : List Note} {j : Place} {p : Node} {i a b x y : ℕ} {n m : Amount} {r q : Answer} {f : Answer → Answer} → node g i ≡ p → First p a → Second i x j p r b y f
+      → Bounded g line live l (at (node g a)) x r n → Bounded g line live l (at (node g b)) y q m → Bounded g line live l (at p) x (f q) (visiting (n ⊕ added j m))
   bounded-two {q = fail} e of-seq W.con h k = con2 h k
   bounded-two {q = ok z us} e of-seq W.con h k = con1 h k
   bounded-two e of-choice W.ord h k = ord2 h k
@@ -62,20 +80,20 @@ module _ (g : Grammar) (line : List ℕ) (live : ℕ → Bool) where
   abbrev Refused : Refusal → ℕ → ℕ → State → State → Type 0
   Refused why i x s t = Unit {0}
 
-  laws : (d : ℕ) (l : List Note) → Laws g line (λ i. Made d l (at (node g i))) (λ a. Applied d l (rule a)) (λ i. Applied d l (node g i)) Refused Refused Refused
+  laws : (d : ℕ) (l : List Note) → Laws g line (λ j i. Made (open-at j d) l (at (node g i))) (λ a. Applied d l (rule a)) (λ i. Applied d l (node g i)) (λ j. Refused) Refused Refused
   laws d l = record {
     leaf = λ i x r s t w. bounded-leaf w;
     uses = λ i a x r s t e h. record { amount = h .amount; rules = rw e (h .rules); spends = h .spends; within = h .within };
     one = λ i x a r q s t f c h. record { amount = h .amount; rules = bounded-one f c (h .rules); spends = h .spends; within = h .within };
-    two = λ i x a b y r q w s t u f c h k. record {
-      amount = h .amount ⊕ k .amount;
+    two = λ i x a b y j r q w s t u f c h k. record {
+      amount = h .amount ⊕ added j (k .amount);
       rules = bounded-two refl f c (h .rules) (k .rules);
-      spends = spends-both (h .spends) (k .spends);
-      within = max-le (h .within) (k .within);
+      spends = spends-both (h .spends) (spends-added j (k .spends));
+      within = max-le (h .within) (within-added j d (k .amount) (k .within));
     };
     uses-refused = λ why i a x s t e h. tt;
     one-refused = λ why i x a s t f h. tt;
-    two-refused = λ why i x a b y r w s t u f c h k. tt;
+    two-refused = λ why i x a b y j r w s t u f c h k. tt;
   }
 
   -- v visits the root of rule a at x while an answer is held.
@@ -135,16 +153,23 @@ module _ (g : Grammar) (line : List ℕ) (live : ℕ → Bool) where
     pub of-use : (l : List Note) (a x : ℕ) (s : State) → All (Applied d l (rule a) x s) (useRule g line way v l a x s)
     of-use l a x s = of-by l a x s (live a) refl
 
+    -- In place as many are open as with the visit itself, so one more than with v.
+    of-place : (f : ℕ) (l : List Note) (i x : ℕ) (s : State) → All (Made (suc d) l (at (node g i)) x s) (inPlace g line way f v l i x s)
+    unfolding inPlace visited
+    of-place zero l i x s =
+        all-map (v l i x s) (hv l i x s) (λ r t h. record { amount = h .amount; rules = h .rules; spends = h .spends; within = let w = h .within in omega arith })
+    of-place (suc f) l i x s =
+        let w : List Note → Visit = inPlace g line way f v in
+        ends-counted _ _ _ (s .left) x s (visited g line way v w l i x) (λ e. tt)
+        (λ n e. let t : State = spent n s in
+        all-map (visited g line way v w l i x t) (walk (laws d l) (v l) (hv l) (w l) (of-place f l) (useRule g line way v l) (of-use l) i x t)
+        (λ r u h. record { amount = visiting (h .amount); rules = h .rules; spends = spends-visit e (h .spends); within = let c = h .within in omega arith }))
+
   -- However many visits may be open.
   pub of-visit : (d : ℕ) (l : List Note) (i x : ℕ) (s : State) → All (Made d l (at (node g i)) x s) (visit g line way d l i x s)
-  unfolding visit visited
+  unfolding visit
   of-visit zero l i x s = ends-counted _ _ _ (s .left) x s (λ t. _) (λ e. tt) (λ n e. tt)
-  of-visit (suc d) l i x s =
-      let v : List Note → Visit = visit g line way d in
-      ends-counted _ _ _ (s .left) x s (visited g line way v l i x) (λ e. tt)
-      (λ n e. let t : State = spent n s in
-      all-map (visited g line way v l i x t) (walk (laws d l) (v l) (of-visit d l) (useRule g line way v l) (of-use d v (of-visit d) l) i x t)
-      (λ r u h. record { amount = visiting (h .amount); rules = h .rules; spends = spends-visit e (h .spends); within = let w = h .within in omega arith }))
+  of-visit (suc d) l i x s = of-place d (visit g line way d) (of-visit d) (s .left) l i x s
 
   pub read-sound : (allowance : ℕ) → All (λ r t. (n : Amount) × Reads g line live r n × Amounts allowance n t) (readBy g line way allowance)
   unfolding readBy

@@ -80,28 +80,29 @@ unfoldable pub denied : ℕ → Answer → State → Run
 denied x fail s = done (ok x no-trees) s
 denied x (ok e ts) s = done fail s
 
--- 01: "If that fails or matches nothing, it matches nothing, with no trees. Else it visits itself at the child's end; trees joined."
+-- 01: "If that fails or matches nothing, it matches nothing, with no trees. Else it visits itself at the child's end; trees joined." w makes that visit.
 unfoldable pub repeatFrom : Visit → ℕ → ℕ → ℕ → Trees → State → Bool → Run
-repeatFrom v i x e ts s true = done (ok x no-trees) s
-repeatFrom v i x e ts s false = after (v i e s) (joined ts)
+repeatFrom w i x e ts s true = done (ok x no-trees) s
+repeatFrom w i x e ts s false = after (w i e s) (joined ts)
 
 unfoldable pub repeated : Visit → ℕ → ℕ → Answer → State → Run
-repeated v i x fail s = done (ok x no-trees) s
-repeated v i x (ok e ts) s = repeatFrom v i x e ts s (eqb x e)
+repeated w i x fail s = done (ok x no-trees) s
+repeated w i x (ok e ts) s = repeatFrom w i x e ts s (eqb x e)
 
 -- 01: "A successful rule use is one tree".
 unfoldable pub wrapped : ℕ → ℕ → Answer → State → Run
 wrapped a x r s = done (wrap a x r) s
 
--- One node's application at x: v visits its children and, for a repetition, node i itself; u uses a rule.
-unfoldable pub apply : List ℕ → Visit → Visit → ℕ → ℕ → State → Node → Run
-apply line v u i x s empty = done (ok x no-trees) s
-apply line v u i x s (range lo hi) = done (byte x (fits line lo hi x)) (asked x s)
-apply line v u i x s (rule a) = u a x s
-apply line v u i x s (seq a b) = after (v a x s) (second v b)
-apply line v u i x s (choice a b) = after (v a x s) (otherwise v b x)
-apply line v u i x s (not a) = after (v a x s) (denied x)
-apply line v u i x s (rep a) = after (v a x s) (repeated v i x)
+-- One node's application at x: v visits its children while it is open, u uses a rule, and w visits in place of this visit. 02, W-208: "A repetition's next visit
+-- of itself shall take the place of the one before"; no other visit is made so.
+unfoldable pub apply : List ℕ → Visit → Visit → Visit → ℕ → ℕ → State → Node → Run
+apply line v w u i x s empty = done (ok x no-trees) s
+apply line v w u i x s (range lo hi) = done (byte x (fits line lo hi x)) (asked x s)
+apply line v w u i x s (rule a) = u a x s
+apply line v w u i x s (seq a b) = after (v a x s) (second v b)
+apply line v w u i x s (choice a b) = after (v a x s) (otherwise v b x)
+apply line v w u i x s (not a) = after (v a x s) (denied x)
+apply line v w u i x s (rep a) = after (v a x s) (repeated w i x)
 
 -- 01: "as long as each attempt is strictly longer than what is held"; k grows on from a longer one.
 unfoldable pub longer : (ℕ → Trees → State → Run) → ℕ → Trees → ℕ → Trees → State → Bool → Run
@@ -164,19 +165,26 @@ module _ (g : Grammar) (line : List ℕ) where
   useRule way v l a x s = useBy (becomesLive way a) v l a x s
 
   -- 01: "a later visit of that pair counts as one visit, works nothing and gives the kept answer".
-  unfoldable pub recall : (List Note → Visit) → List Note → ℕ → ℕ → State → Option Answer → Run
-  recall v l i x s (some r) = done r s
-  recall v l i x s none = after (apply line (v l) (useRule keeps v l) i x s (node g i)) (keep i x)
+  unfoldable pub recall : (v w : List Note → Visit) → List Note → ℕ → ℕ → State → Option Answer → Run
+  recall v w l i x s (some r) = done r s
+  recall v w l i x s none = after (apply line (v l) (w l) (useRule keeps v l) i x s (node g i)) (keep i x)
 
   -- A visit that may be made. 01: "All others. Nothing is kept but this."
-  unfoldable pub visited : Way → (List Note → Visit) → List Note → Visit
-  visited keeps v l i x s = recall v l i x s (look (s .kept) i x)
-  visited (grows live) v l i x s = apply line (v l) (useRule (grows live) v l) i x s (node g i)
+  unfoldable pub visited : Way → (v w : List Note → Visit) → List Note → Visit
+  visited keeps v w l i x s = recall v w l i x s (look (s .kept) i x)
+  visited (grows live) v w l i x s = apply line (v l) (w l) (useRule (grows live) v l) i x s (node g i)
+
+  -- A visit in its place among the open ones, and those that take this place after it; v visits while it is open. 02, W-208: "it still counts as a visit, but the
+  -- number of open visits doesn't rise". The first number bounds the visits made in one place: each counts, so as many as there are visits left are enough, and where
+  -- they are used up none is left, so that v refuses it. (proofs/InPlace has the equation without this number.)
+  unfoldable pub inPlace : Way → ℕ → (List Note → Visit) → List Note → Visit
+  inPlace way zero v l i x s = v l i x s
+  inPlace way (suc f) v l i x s = counted (s .left) x s (visited way v (inPlace way f v) l i x)
 
   -- 01: "else if 512 visits are open, DEEP". The number is how many more visits may be open.
   unfoldable pub visit : Way → ℕ → List Note → Visit
   visit way zero l i x s = counted (s .left) x s (λ t. deep x s)
-  visit way (suc d) l i x s = counted (s .left) x s (visited way (visit way d) l i x)
+  visit way (suc d) l i x s = inPlace way (s .left) (visit way d) l i x s
 
   -- 01: "The reading is a use of rule 0 at position 0; that use is not itself a visit."
   unfoldable pub readBy : Way → ℕ → Run

@@ -3,7 +3,7 @@
 -- 003 has var for rules that aren't left-recursive and lvar for those that are; here which rules become live is a parameter of Bounded.
 use mathlib.Core.Path.{_≡_}
 use mathlib.Core.Logic.{_≢_}
-use Prim.Native.Nat.{ℕ, suc, _+_, _<_, _≤_, max}
+use Prim.Native.Nat.{ℕ, suc, _+_, _-_, _<_, _≤_, max}
 use mathlib.Core.Bool.{Bool, true, false}
 use mathlib.Core.List.{List, []}
 use mathlib.Core.Option.{none, some}
@@ -47,7 +47,7 @@ furthestOf (rep2 h q k) = max (furthestOf h) (furthestOf k)
 furthestOf (rep3 h) = furthestOf h
 
 -- What a derivation by the bounded rules amounts to beside its answer: 01's number of visits, W-203's furthest position, and how many visits are open at once, by
--- 01's "children, roots and a repetition's own next visit are made while it is open".
+-- 01's "children, roots [..] are made while it is open".
 pub record Amount : Type 0 where
   pub visits : ℕ
   pub furthest : ℕ
@@ -65,6 +65,11 @@ n ⊕ m = record { visits = n .visits + m .visits; furthest = max (n .furthest) 
 
 abbrev pub visiting : Amount → Amount
 visiting n = record { visits = suc (n .visits); furthest = n .furthest; depth = suc (n .depth) }
+
+-- A visit made in place of another. 02, W-208: "A repetition's next visit of itself shall take the place of the one before: it still counts as a visit, but the
+-- number of open visits doesn't rise."
+abbrev pub inPlace : Amount → Amount
+inPlace n = record { visits = n .visits; furthest = n .furthest; depth = n .depth - 1 }
 
 -- The left side of 003's two relations: a node (PEG), or rule a grown on from the match held for it, by its end and trees (INC).
 pub data Goal : Type 0 where
@@ -89,7 +94,7 @@ pub data Bounded (g : Grammar) (line : List ℕ) (live : ℕ → Bool) : List No
   not2 : {l : List Note} {a x y : ℕ} {n : Amount} {ts : Trees} → Bounded g line live l (at (node g a)) x (ok y ts) n → Bounded g line live l (at (not a)) x fail (visiting n)
   rep1 : {l : List Note} {a x : ℕ} {n : Amount} → Bounded g line live l (at (node g a)) x fail n → Bounded g line live l (at (rep a)) x (ok x no-trees) (visiting n)
   rep2 : {l : List Note} {a x y z : ℕ} {n m : Amount} {ts us : Trees} → Bounded g line live l (at (node g a)) x (ok y ts) n → x ≢ y
-      → Bounded g line live l (at (rep a)) y (ok z us) m → Bounded g line live l (at (rep a)) x (ok z (ts ⋈ us)) (visiting (n ⊕ m))
+      → Bounded g line live l (at (rep a)) y (ok z us) m → Bounded g line live l (at (rep a)) x (ok z (ts ⋈ us)) (visiting (n ⊕ inPlace m))
   rep3 : {l : List Note} {a x : ℕ} {n : Amount} {ts : Trees} → Bounded g line live l (at (node g a)) x (ok x ts) n → Bounded g line live l (at (rep a)) x (ok x no-trees) (visiting n)
   var : {l : List Note} {a x : ℕ} {n : Amount} {r : Answer} → live a ≡ false → Bounded g line live l (at (root g a)) x r n → Bounded g line live l (at (rule a)) x (wrap a x r) (visiting n)
   lvar1 : {l : List Note} {a x e : ℕ} {n m : Amount} {ts : Trees} {r : Answer} → live a ≡ true → look l a x ≡ none → Bounded g line live (noted a x fail l) (at (root g a)) x (ok e ts) n

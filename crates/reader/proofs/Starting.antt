@@ -18,7 +18,7 @@ use Rattle.report.proofs.Computed.{recursive-bits}
 use Rattle.cells.specs.Arena.{Arena}
 use Rattle.cells.proofs.Frame.{arena-below}
 use Rattle.visits.specs.Given.{Given, lent, nodesIn, rootIn, keepsIn, wayIn, baseIn, roomIn, Fit}
-use Rattle.visits.specs.Words.{topIn, madeIn, furthestIn, placeIn, keptAs, keptAt, Stands, Words}
+use Rattle.visits.specs.Words.{turnsIn, topIn, madeIn, furthestIn, placeIn, keptAs, keptAt, Stands, Words}
 use Rattle.visits.specs.Says.{Visited, Starts, Ends, Says, Came, after-visit, uses}
 use Rattle.visits.proofs.Frame.{pair-in}
 use Rattle.visits.proofs.Ready.{root-in}
@@ -28,29 +28,32 @@ use Rattle.reader.specs.Steps.{Startable, Tells, Visiting}
 pub some-rule : {table line w : List ℕ} {allowance : ℕ} {free : Bool} {mask : ℕ} → Startable table line w allowance free mask → 0 < rulesOf table
 some-rule {table} s = well-laid table (laid table (s .fitting .accepted)) .some-rule
 
--- From the words w₀, with no cell in use, no visit made and no range visited.
-module _ (table line w₀ w : List ℕ) (allowance flag at mask : ℕ) (free : Bool) (s : Startable table line w₀ allowance free mask) (ef : ltb 0 flag ≡ free) (ea : at ≡ nodeAt (rulesOf table) 0) (ew : w ≡ sets w₀ 2042 (0 ∷ 0 ∷ 0 ∷ [])) where
+-- From the words w₀, with no turn waiting, no cell in use, no visit made and no range visited.
+module _ (table line w₀ w : List ℕ) (allowance flag at mask : ℕ) (free : Bool) (s : Startable table line w₀ allowance free mask) (ef : ltb 0 flag ≡ free) (ea : at ≡ nodeAt (rulesOf table) 0) (ew : w ≡ sets w₀ 2041 (0 ∷ 0 ∷ 0 ∷ 0 ∷ [])) where
   abbrev given : Given
   given = lent table (allowance ∷ flag ∷ at ∷ mask ∷ [])
 
   long : length w ≡ length w₀
-  long = ap length ew ∙ length-sets w₀ 2042 (0 ∷ 0 ∷ 0 ∷ [])
+  long = ap length ew ∙ length-sets w₀ 2041 (0 ∷ 0 ∷ 0 ∷ 0 ∷ [])
 
-  -- Each of the three words is zero, by its place among them.
-  zeroed : (k : ℕ) → k < 3 → getD w (2042 + k) 0 ≡ getD (0 ∷ 0 ∷ 0 ∷ []) k 0
-  zeroed k h = let l = s .arena .long in ap (λ v. getD v (2042 + k) 0) ew ∙ sets-at (0 ∷ 0 ∷ 0 ∷ []) w₀ 2042 k h (omega arith)
+  -- Each of the four words is zero, by its place among them.
+  zeroed : (k : ℕ) → k < 4 → getD w (2041 + k) 0 ≡ getD (0 ∷ 0 ∷ 0 ∷ 0 ∷ []) k 0
+  zeroed k h = let l = s .arena .long in ap (λ v. getD v (2041 + k) 0) ew ∙ sets-at (0 ∷ 0 ∷ 0 ∷ 0 ∷ []) w₀ 2041 k h (omega arith)
+
+  no-turn : turnsIn w ≡ 0
+  no-turn = zeroed 0 (omega arith)
 
   no-cell : topIn w ≡ 0
-  no-cell = zeroed 0 (omega arith)
+  no-cell = zeroed 1 (omega arith)
 
   no-visit : madeIn w ≡ 0
-  no-visit = zeroed 1 (omega arith)
+  no-visit = zeroed 2 (omega arith)
 
   no-range : furthestIn w ≡ 0
-  no-range = zeroed 2 (omega arith)
+  no-range = zeroed 3 (omega arith)
 
   above : (i : ℕ) → 2045 ≤ i → getD w i 0 ≡ getD w₀ i 0
-  above i h = ap (λ l. getD l i 0) ew ∙ sets-apart (0 ∷ 0 ∷ 0 ∷ []) w₀ 2042 i (λ l. omega arith)
+  above i h = ap (λ l. getD l i 0) ew ∙ sets-apart (0 ∷ 0 ∷ 0 ∷ 0 ∷ []) w₀ 2041 i (λ l. omega arith)
 
   fit : Fit given line
   fit = record { laid = laid _ (s .fitting .accepted); first = ea; short = s .fitting .short; allowance = s .fitting .allowed }
@@ -64,7 +67,7 @@ module _ (table line w₀ w : List ℕ) (allowance flag at mask : ℕ) (free : B
       let l = long in
       record {
         room = omega arith;
-        arena = subst (λ l. Arena l 0) (sym ew) (arena-below w₀ 0 2042 (0 ∷ 0 ∷ 0 ∷ []) (omega arith) (s .arena));
+        arena = subst (λ l. Arena l 0) (sym ew) (arena-below w₀ 0 2041 (0 ∷ 0 ∷ 0 ∷ 0 ∷ []) (omega arith) (s .arena));
         held-lists = λ i h. absurd (omega arith);
         held-ends = λ i h. absurd (omega arith);
         kept-lists = λ k j h. let z = zero-at k (baseIn given + j * 2 + 1) (omega arith) (omega arith) in omega arith;
@@ -79,7 +82,7 @@ module _ (table line w₀ w : List ℕ) (allowance flag at mask : ℕ) (free : B
     pos-in = omega arith;
     open-in = omega arith;
     made-in = omega arith;
-    top-in = omega arith;
+    top-in = omega (arith, no-turn);
     order = λ e. record { rising = λ i j a b. absurd (omega arith); newest = λ i h. absurd (omega arith); ahead = λ i h. absurd (omega arith) };
   })
 

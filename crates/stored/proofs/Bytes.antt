@@ -49,10 +49,6 @@ unfolding numberOf
 number-join no-trees us = omega arith
 number-join (tree a x e cs ts) us = omega (arith, number-join ts us)
 
-pub join-none : (ts : Trees) → ts ⋈ no-trees ≡ ts
-join-none no-trees = refl
-join-none (tree a x e cs ts) = rw (join-none ts)
-
 pub records-tree : (a x e : ℕ) (cs : Trees) → recordsOf (tree a x e cs no-trees) ≡ 1 + recordsOf cs
 unfolding recordsOf
 records-tree a x e cs = omega arith

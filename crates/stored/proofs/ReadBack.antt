@@ -9,7 +9,7 @@ use Rattle.stored.specs.Stored.{recordsOf, numberOf, storedLength, store
 use Rattle.stored.specs.WellFormed.{numberAt, Record, recordsAt}
 use Rattle.stored.specs.Nested.{Fits}
 use Rattle.stored.specs.ReadBack.{newest, older, build, treeOf}
-use Rattle.stored.proofs.Bytes.{join-none}
+use Rattle.meaning.proofs.Answers.{join-none}
 use Rattle.stored.proofs.Records.{listed, count-back, all-back}
 
 -- The trees of a list, the newest first, on those before them.

@@ -10,11 +10,11 @@ use Rattle.meaning.specs.Grammar.{no-trees, tree, Answer, fail, ok, rootOf, Not
 use Rattle.meaning.specs.Reading.{State, effort, Visit}
 use Rattle.cells.specs.Cells.{treesAt}
 use Rattle.visits.specs.Given.{Given, keepsIn, wayIn, allowanceIn, grammarIn, leftIn, liveIn, posIn, Fit}
-use Rattle.visits.specs.Words.{keyOf, topIn, madeIn, HeldAs, Words, Same, Added}
+use Rattle.visits.specs.Words.{keyOf, turnsIn, topIn, madeIn, HeldAs, Words, Same, Added}
 use Rattle.visits.specs.Says.{FAILED, STOPPED, endIn, listIn, Came, after-visit, reading, grows, Starts, Ends, EndsVisit}
 use Rattle.visits.proofs.Frame.{same-then, made-same, made-words}
 use Rattle.visits.proofs.Steps.{came-at}
-use Rattle.visits.proofs.Entering.{visit-none-left}
+use Rattle.meaning.proofs.InPlace.{visit-out}
 use Rattle.visits.proofs.Living.{usePut, while-live, fresh-same, order-same}
 use Rattle.visits.proofs.Growing.{kids, attempt, grown, Growing, begins, out-stop, out-held, turns, first-out, first-grown}
 use Rattle.visits.proofs.Ready.{ready-loop}
@@ -25,7 +25,7 @@ abbrev pub GrowingIn : (given : Given) (line : List ℕ) (spot root rule pos : �
 GrowingIn given line spot root rule pos w₀ end₀ w end = Growing given line (reading given line (leftIn spot)) root rule pos (liveIn spot) w₀ end₀ (madeIn w₀) (topIn w₀) w end (madeIn w) (topIn w)
 
 -- There is room for one tree more.
-pub room-tree : (given : Given) (line : List ℕ) {w : List ℕ} {live : ℕ} → Fit given line → Words given line w live (topIn w) → topIn w < allowanceIn given → (2048 + 4 * topIn w + 3 < length w) × (topIn w < 1073741823)
+pub room-tree : (given : Given) (line : List ℕ) {w : List ℕ} {live : ℕ} → Fit given line → Words given line w live (topIn w) → topIn w + turnsIn w < allowanceIn given → (2048 + 4 * topIn w + 3 < length w) × (topIn w < 1073741823)
 room-tree given line fit words low = let r = words .room in let a = fit .allowance in (omega arith, omega arith)
 
 -- A use: what is lent and the line, the words where it begins, where it stands, its rule and the rule's root.
@@ -81,10 +81,13 @@ module _ (u : Use) where
   visiting = reading given line (leftIn spot)
 
   none-left : (l : List Note) (s : State) → s .left ≡ 0 → visiting l root pos s ≡ effort pos s
-  none-left l s e = visit-none-left (grammarIn given) line (wayIn given) l root pos s (leftIn spot) e
+  none-left l s e = visit-out (grammarIn given) line (wayIn given) (leftIn spot) l root pos s e
 
   made-stays : {w₂ w₃ : List ℕ} {r : ℕ} → Planted w₂ r w₃ → madeIn w₃ ≡ madeIn w₂
   made-stays p = p .added .below 2043 (omega arith) (omega arith)
+
+  planted-turns : {w : List ℕ} {r : ℕ} {w₁ : List ℕ} → Planted w r w₁ → turnsIn w₁ ≡ turnsIn w
+  planted-turns p = p .added .below 2041 (omega arith) (omega arith)
 
   -- What an attempt comes to, while h is held.
   attempted : {w w₂ : List ℕ} {end list r : ℕ} → Tried w → Attempt w end list w₂ r → end ≤ length line → list ≤ topIn w → (h : Answer) → HeldAs end list (treesAt w list) rule pos h
@@ -105,8 +108,8 @@ module _ (u : Use) where
     pub first-ends : STOPPED ≤ endIn r → Ends given line start w₂ spot r (λ l s. grows given line (leftIn spot) l rule pos s)
     first-ends h = record { came = first-out given line (t .ready .fit) visiting root rule pos none-left (t .rooted) (t .fresh) (first-attempt .came) h; cells = first-attempt .cells; ahead = first-attempt .ahead }
 
-    pub first-low : endIn r < STOPPED → topIn w₂ < allowanceIn given
-    first-low h = omega (arith, first-attempt .fewer h, first-attempt .came .made-in, t .ready .top-in)
+    pub first-low : endIn r < STOPPED → topIn w₂ + turnsIn w₂ < allowanceIn given
+    first-low h = omega (arith, first-attempt .fewer h, first-attempt .came .made-in, first-attempt .came .same .turns, t .ready .top-in)
 
   -- Its tree is made, and the loop begins.
   module _ {r : ℕ} {w₃ : List ℕ} (b : Begun r w₃) where
@@ -133,7 +136,7 @@ module _ (u : Use) where
 
       tried-again : Tried w
       tried-again = record {
-        ready = ready-loop (b .tried .ready) (omega (arith, first-attempt (b .tried) (b .first) .fewer (b .short), b .tried .ready .top-in, b .made .top, b .made .next, made-stays (b .made))) (λ p. order-same given line same-so-far (omega arith) (b .tried .ready .order p)) g;
+        ready = ready-loop (b .tried .ready) (omega (arith, first-attempt (b .tried) (b .first) .fewer (b .short), first-attempt (b .tried) (b .first) .came .same .turns, planted-turns (b .made), b .tried .ready .top-in, b .made .top, b .made .next, made-stays (b .made))) (λ p. order-same given line same-so-far (omega arith) (b .tried .ready .order p)) g;
         there = b .tried .there;
         room = b .tried .room;
         small = b .tried .small;
@@ -172,8 +175,8 @@ module _ (u : Use) where
 
     -- A longer match: its tree is made, and the loop goes on.
     module _ (short : endIn q < STOPPED) where
-      pub next-low : topIn w₂ < allowanceIn given
-      next-low = omega (arith, next-attempt .fewer short, next-attempt .came .made-in, tried-again (n .begun) (n .growing) .ready .top-in)
+      pub next-low : topIn w₂ + turnsIn w₂ < allowanceIn given
+      next-low = omega (arith, next-attempt .fewer short, next-attempt .came .made-in, next-attempt .came .same .turns, tried-again (n .begun) (n .growing) .ready .top-in)
 
       module _ {w₄ : List ℕ} (p : Planted w₂ q w₄) where
         pub loop-turns : end < endIn q → GrowingIn given line spot root rule pos w₃ (endIn r) w₄ (endIn q)

@@ -9,7 +9,7 @@ use lib.ListN.{length}
 use lib.Dec.{ltb}
 use borrow.Author.Tests.{lt-ltb, le-ltb}
 use Rattle.meaning.specs.Grammar.{fits}
-use Rattle.meaning.specs.Reading.{Run, byte, after, second, otherwise, denied, repeated, wrapped, apply, becomesLive, wayOf, useBy}
+use Rattle.meaning.specs.Reading.{Run, byte, after, second, otherwise, denied, wrapped, apply, becomesLive, wayOf, useBy}
 use Rattle.visits.specs.Given.{Given, kindIn, aIn, bIn, rootIn, nodesIn, rulesIn, keepsIn, growsIn, wayIn, allowanceIn, grammarIn, leftIn, liveIn, posIn, Fit}
 use Rattle.visits.specs.Words.{topIn, madeIn, furthestIn, reachedIn, Words}
 use Rattle.visits.specs.Says.{Visited, FAILED, Came, reading, uses, grows, applies, endOf, endIn, listIn, Ranges, Starts, Ends}
@@ -63,11 +63,6 @@ module _ (given : Given) (line : List ℕ) (fit : Fit given line) where
     unfolding apply
     apply-not k a e c = applied-as given line fit i 5 li k left pos (rw e at c)
 
-    pub apply-repetition : kindIn given i ≡ 6 → (a : ℕ) → a ≡ aIn given i → Came given line w w′ live made top r (λ l s. after (reading given line left l a pos s) (repeated (reading given line left l) i pos))
-        → Came given line w w′ live made top r (λ l s. applies given line left l i pos s)
-    unfolding apply
-    apply-repetition k a e c = applied-as given line fit i 6 li k left pos (rw e at c)
-
   module _ {w : List ℕ} {live made top : ℕ} (left i pos : ℕ) (li : i < nodesIn given) (words : Words given line w live top) (le : made ≤ allowanceIn given) where
     pub apply-empty : kindIn given i ≡ 0 → pos ≤ length line → Came given line w w live made top (result pos 0 top made) (λ l s. applies given line left l i pos s)
     unfolding apply
@@ -80,7 +75,7 @@ module _ (given : Given) (line : List ℕ) (fit : Fit given line) where
         let e : kindIn given i ≡ suc (suc (suc (suc (suc (suc (suc n)))))) = k ∙ (let z : 7 + n ≡ suc (suc (suc (suc (suc (suc (suc n)))))) = omega arith in z) in
         applied-as given line fit i _ li e left pos (match-still given line fit words le pos inside)
 
-    apply-range : live * 3 ≤ 2042 → kindIn given i ≡ 1
+    apply-range : live * 3 ≤ 2041 → kindIn given i ≡ 1
         → Came given line w (reachedIn w pos) live made top (result (endOf (byte pos (fits line (aIn given i) (bIn given i) pos))) 0 top made) (λ l s. applies given line left l i pos s)
     unfolding apply
     apply-range few k =
@@ -134,7 +129,7 @@ range-ends given line {w} spot i r ready kind range is =
     let reached : List ℕ = reachedIn w (posIn spot) in
     let top : topIn reached ≡ topIn w = written-top given line 2044 (omega arith) (omega arith) w (max (furthestIn w) (posIn spot)) in
     let made : madeIn reached ≡ madeIn w = reach-made given line w (posIn spot) in
-    let few : liveIn spot * 3 ≤ 2042 = let o = ready .open-in in omega arith in
+    let few : liveIn spot * 3 ≤ 2041 = let o = ready .open-in in omega arith in
     rw is (record {
       came = came-at given line (ready .fit .short) (endIn r) (listIn r) (topIn reached) (madeIn reached) (range .0) (range .1) top made
           (apply-range given line (ready .fit) (leftIn spot) i (posIn spot) (ready .node-in) (ready .words) (ready .made-in) few kind);

@@ -44,7 +44,7 @@ module _ (given : Given) (line : List ℕ) where
     abbrev counted : List ℕ
     counted = set w 2043 (madeIn w + 1)
 
-    few : liveIn spot * 3 ≤ 2042
+    few : liveIn spot * 3 ≤ 2041
     few = let o = ready .open-in in omega arith
 
     long : 2048 ≤ length w
@@ -61,6 +61,7 @@ module _ (given : Given) (line : List ℕ) where
         let a : liveIn (spot - 1) ≡ liveIn spot = live-less spot some in
         let b : topIn counted ≡ topIn w = written-top given line 2043 (omega arith) (omega arith) w (madeIn w + 1) in
         let c : madeIn counted ≡ madeIn w + 1 = count-made given line w (madeIn w + 1) long in
+        let u = written-same given line 2043 (omega arith) (omega arith) w (madeIn w + 1) {live = liveIn spot} {top = 0} few .turns in
         rw (a, b, c) (record { fit = ready .fit; words = counted-words; node-in = ready .node-in; pos-in = ready .pos-in; open-in = omega arith; made-in = omega arith; top-in = omega arith; order = λ p. order-same given line {top = 0} (written-same given line 2043 (omega arith) (omega arith) w (madeIn w + 1) few) (omega arith) (ready .order p) })
 
     module _ {w′ : List ℕ} {m : List Note → State → Run} (r : ℕ) (e : Ends given line counted w′ (spot - 1) r m) where

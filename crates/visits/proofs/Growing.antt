@@ -10,7 +10,7 @@ use Rattle.meaning.specs.Grammar.{Trees, no-trees, tree, Answer, fail, ok, wrap
 use Rattle.meaning.specs.Reading.{State, Run, effort, deep, done, after, Visit, wrapped, longer, attempted, grow, firstAttempt, useLive, useBy}
 use Rattle.cells.specs.Cells.{treesAt}
 use Rattle.visits.specs.Given.{Given, allowanceIn, grammarIn, Fit}
-use Rattle.visits.specs.Words.{Added, keyOf, Stands, Words, Same}
+use Rattle.visits.specs.Words.{turnsIn, Added, keyOf, Stands, Words, Same}
 use Rattle.visits.specs.Says.{Visited, FAILED, STOPPED, Says, Came}
 use Rattle.visits.proofs.Frame.{same-none, same-then, same-trees, made-same, made-words, made-stands}
 use Rattle.visits.proofs.Steps.{says-stop, came-after, then-match, unmatched, came-when}
@@ -160,7 +160,7 @@ module _ (given : Given) (line : List ℕ) (fit : Fit given line) (v : List Note
         way-out refl refl (omega arith) (λ z. g .end-in) (λ z. up) (λ l f s st le. grow-held w₂ live l next end (kids (treesAt w top)) f s top (g .end-in) e le (n .says l s st) c)
 
     -- Another turn.
-    pub turns : end < next .end → next .end < STOPPED → live * 3 ≤ 2042 → next .top < allowanceIn given → next .top + made < top + next .made → {w₃ : List ℕ}
+    pub turns : end < next .end → next .end < STOPPED → live * 3 ≤ 2041 → next .top + turnsIn w₂ < allowanceIn given → next .top + made < top + next .made → {w₃ : List ℕ}
         → Added w₂ w₃ (next .top) (next .top + 1) (next .top + 1) (tree a x (next .end) (treesAt w₂ (next .list)) no-trees)
         → Growing given line v root a x live w₀ end₀ made₀ top₀ w₃ (next .end) (next .made) (next .top + 1)
     turns lt short few low fewer {w₃} m =
@@ -205,7 +205,7 @@ module _ (given : Given) (line : List ℕ) (fit : Fit given line) (v : List Note
     unfolding firstAttempt
     first-out h = used (unmatched given line (fit .short) (λ l. firstAttempt (attempt given line v root a x l) a x) A h (λ l s. refl))
 
-    pub first-grown : first .end < STOPPED → live * 3 ≤ 2042 → first .top < allowanceIn given → {w₂ w′ : List ℕ} {r : Visited}
+    pub first-grown : first .end < STOPPED → live * 3 ≤ 2041 → first .top + turnsIn w₁ < allowanceIn given → {w₂ w′ : List ℕ} {r : Visited}
         → Added w₁ w₂ (first .top) (first .top + 1) (first .top + 1) (tree a x (first .end) (treesAt w₁ (first .list)) no-trees)
         → Came given line w₂ w′ live (first .made) (first .top + 1) r (λ l s. grown given line v root a x l (s .left) (first .end) (kids (treesAt w₂ (first .top + 1))) s)
         → Came given line w₀ w′ live made top r (uses given line fit v a x)

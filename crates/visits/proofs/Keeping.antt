@@ -4,7 +4,7 @@ use mathlib.Core.Logic.{_≢_, _⊎_, inl, inr}
 use mathlib.Core.Bool.{Bool, true, false}
 use mathlib.Core.List.{List, [], _∷_}
 use mathlib.Core.Option.{Option, none, some}
-use Prim.Native.Nat.{ℕ, suc, _+_, _*_, _-_, _<_, _≤_}
+use Prim.Native.Nat.{ℕ, suc, _+_, _*_, _<_, _≤_}
 use native.Mathlib.Nat.{add-zero, mul-le-mul-right}
 use native.Mathlib.Omega.{arith}
 use lib.ListN.{length, getD}
@@ -46,6 +46,12 @@ by-same {P} i j f g = by-test (eqb i j) refl
     by-test true e = f (eqb-true i j e)
     by-test false e = g (eqb-false i j e)
 
+-- What is kept lies above all the other words.
+pub kept-others : (given : Given) (line old new : List ℕ) (i x end list j : ℕ) → Kept given line old new i x end list → end ≤ FAILED → j < baseIn given → getD new j 0 ≡ getD old j 0
+kept-others given line old new i x end list j k most h = by-same end STOPPED (λ e. ap (λ w. getD w j 0) (k .stopped e))
+    (λ n. by-same end FAILED (λ e. ap (λ w. getD w j 0) (k .failed e) ∙ put-other old (placeIn given line i x) 1 0 j (omega arith) (omega arith))
+    (λ m. ap (λ w. getD w j 0) (k .matched (omega arith)) ∙ put-other old (placeIn given line i x) (end + 2) list j (omega arith) (omega arith)))
+
 module _ (given : Given) (line : List ℕ) where
   abbrev pair : ℕ → ℕ → ℕ
   pair i x = i * (length line + 1) + x
@@ -66,7 +72,7 @@ module _ (given : Given) (line : List ℕ) where
   same-position : (i x j y : ℕ) → pair i x ≡ pair j y → i ≡ j → x ≡ y
   same-position i x j y e q = let z : i * (length line + 1) ≡ j * (length line + 1) = ap (λ n. n * (length line + 1)) q in omega arith
 
-  module _ (fit : Fit given line) {w : List ℕ} {live top : ℕ} (words : Words given line w live top) (free : keepsIn given ≡ true) (few : live * 3 ≤ 2042) (low : top ≤ allowanceIn given)
+  module _ (fit : Fit given line) {w : List ℕ} {live top : ℕ} (words : Words given line w live top) (free : keepsIn given ≡ true) (few : live * 3 ≤ 2041) (low : top ≤ allowanceIn given)
       (i x : ℕ) (li : i < nodesIn given) (lx : x ≤ length line) where
     abbrev place : ℕ
     place = placeIn given line i x
@@ -84,6 +90,8 @@ module _ (given : Given) (line : List ℕ) where
           record {
             uses = λ j h. put-other w place word list j (omega arith) (omega arith);
             cells = λ j p q. put-other w place word list j (omega arith) (omega arith);
+            turns = put-other w place word list 2041 (omega arith) (omega arith);
+            waiting = λ j low p q. put-other w place word list j (omega arith) (omega arith);
             past = λ j h. put-other w place word list j (omega arith) (omega arith);
           }
 
@@ -158,23 +166,62 @@ module _ (given : Given) (line : List ℕ) where
         says = f;
       }
 
-  module _ (fit : Fit given line) (v : List Note → Visit) (i x : ℕ) (li : i < nodesIn given) (lx : x ≤ length line) where
+  -- A run m came to an answer, and then the answer of a pair is kept.
+  module _ (fit : Fit given line) (free : keepsIn given ≡ true) (i x : ℕ) (li : i < nodesIn given) (lx : x ≤ length line) {w w′ : List ℕ} {live made top end list top′ made′ : ℕ} {m : List Note → State → Run}
+      (c : Came given line w w′ live made top (result end list top′ made′) m) (few : live * 3 ≤ 2041) (low : top′ ≤ allowanceIn given) where
+    abbrev keeping-it : List Note → State → Run
+    keeping-it l s = after (m l s) (keep i x)
+
+    keep-fail : end ≡ FAILED → Came given line w (pairPut w′ (placeIn given line i x) 1 0) live made top (result FAILED 0 top′ made′) keeping-it
+    unfolding keep keptAs
+    keep-fail e =
+        then-fail given line (fit .short) (λ l. keep i x) c e
+        (keep-came fit (c .words) free few low i x li lx 1 0 (omega arith) (omega arith) FAILED _ (c .made-in) (omega arith) (λ z. absurd (omega arith))
+        (λ l s h. record { end = refl; stands = keep-stands fit (c .words) free few low i x li lx 1 0 (omega arith) (omega arith) fail refl l s h }))
+
+    keep-match : end < STOPPED → Came given line w (pairPut w′ (placeIn given line i x) (end + 2) list) live made top (result end list top′ made′) keeping-it
+    unfolding keep keptAs
+    keep-match e =
+        let inside = c .end-in e in
+        let below = c .list-in e in
+        let two : end + 2 ≡ suc (suc end) = omega arith in
+        then-match given line (fit .short) (λ l. keep i x) c e
+        (keep-came fit (c .words) free few low i x li lx (end + 2) list (omega arith) below end _ (c .made-in) (c .end-most) (λ z. inside)
+        (λ l s h. (
+          same-trees given line (keep-same fit (c .words) free few low i x li lx (end + 2) list (omega arith) below) list below,
+          record { end = refl; inside = inside; stands = keep-stands fit (c .words) free few low i x li lx (end + 2) list (omega arith) below (ok end (treesAt w′ list)) (rw two refl) l s h },
+        )))
+
+    module _ {w″ : List ℕ} (kept : Kept (lent [] (given .numbers)) line w′ w″ i x end list) where
+      by-end : (end ≡ STOPPED) ⊎ ((end ≡ FAILED) ⊎ (end < STOPPED)) → Came given line w w″ live made top (result end list top′ made′) keeping-it
+      by-end (inl e) = rw (kept .stopped e) (stopped given line (fit .short) (λ l. keep i x) c e)
+      by-end (inr (inl e)) = came-failed given line (fit .short) 0 end list e (rw (kept .failed e) (keep-fail e))
+      by-end (inr (inr e)) = rw (kept .matched e) (keep-match e)
+
+      which : end ≤ FAILED → (end ≡ STOPPED) ⊎ ((end ≡ FAILED) ⊎ (end < STOPPED))
+      which h = by-same end STOPPED (λ e. inl e) (λ n. by-same end FAILED (λ e. inr (inl e)) (λ k. inr (inr (omega arith))))
+
+      pub kept-came : Came given line w w″ live made top (result end list top′ made′) keeping-it
+      kept-came = by-end (which (c .end-most))
+
+  -- v visits while the visit of node i at x is open, u in its place.
+  module _ (fit : Fit given line) (v u : List Note → Visit) (i x : ℕ) (li : i < nodesIn given) (lx : x ≤ length line) where
     abbrev working : Way → List Note → State → Run
-    working way l s = apply line (v l) (useRule (grammarIn given) line way v l) i x s (node (grammarIn given) i)
+    working way l s = apply line (v l) (u l) (useRule (grammarIn given) line way v l) i x s (node (grammarIn given) i)
 
     abbrev visiting : List Note → State → Run
-    visiting l s = visited (grammarIn given) line (wayIn given) v l i x s
+    visiting l s = visited (grammarIn given) line (wayIn given) v u l i x s
 
     -- Nothing is kept.
     pub visited-plain : {w w′ : List ℕ} {live made top : ℕ} {r : Visited} → keepsIn given ≡ false → Came given line w w′ live made top r (working (wayIn given)) → Came given line w w′ live made top r visiting
     unfolding visited
-    visited-plain e c = came-as given line (fit .short) visiting c (λ l s. ap (λ b. working (wayOf b (growsIn given)) l s) e ∙ ap (λ b. visited (grammarIn given) line (wayOf b (growsIn given)) v l i x s) (sym e))
+    visited-plain e c = came-as given line (fit .short) visiting c (λ l s. ap (λ b. working (wayOf b (growsIn given)) l s) e ∙ ap (λ b. visited (grammarIn given) line (wayOf b (growsIn given)) v u l i x s) (sym e))
 
     recalled : {w : List ℕ} {live made : ℕ} (free : keepsIn given ≡ true) (l : List Note) (s : State) (q : Option Answer) → Stands given line w live made l s → keptAt w (placeIn given line i x) ≡ q
-        → recall (grammarIn given) line v l i x s q ≡ visiting l s
+        → recall (grammarIn given) line v u l i x s q ≡ visiting l s
     unfolding visited
     recalled free l s q h e =
-        ap (recall (grammarIn given) line v l i x s) (sym e ∙ sym (h .kept free i x li lx)) ∙ ap (λ b. visited (grammarIn given) line (wayOf b (growsIn given)) v l i x s) (sym free)
+        ap (recall (grammarIn given) line v u l i x s) (sym e ∙ sym (h .kept free i x li lx)) ∙ ap (λ b. visited (grammarIn given) line (wayOf b (growsIn given)) v u l i x s) (sym free)
 
     module _ {w : List ℕ} {live made top : ℕ} (words : Words given line w live top) (free : keepsIn given ≡ true) (le : made ≤ allowanceIn given) where
       -- A failure is kept, or a match is.
@@ -195,48 +242,10 @@ module _ (given : Given) (line : List ℕ) where
           (λ l s h. subst (Says given line w live l (result e (getD w (placeIn given line i x + 1) 0) top made)) (recalled free l s (some (ok e (treesAt w (getD w (placeIn given line i x + 1) 0)))) h (rw q refl))
           (refl, record { end = refl; inside = inside; stands = h }))
 
-      module _ (none-kept : getD w (placeIn given line i x) 0 ≡ 0) {w′ : List ℕ} {r : Visited} (c : Came given line w w′ live made top r (working (wayIn given))) where
-        from-new : {w″ : List ℕ} {b : Visited} → Came given line w w″ live made top b (λ l s. after (working (wayIn given) l s) (keep i x)) → Came given line w w″ live made top b visiting
-        unfolding recall keptAs
-        from-new d = came-when given line (fit .short) visiting d (λ l s h. ap (λ b. after (working (wayOf b (growsIn given)) l s) (keep i x)) free ∙ recalled free l s none h (rw none-kept refl))
-
-        pub keep-stop : r .end ≡ STOPPED → Came given line w w′ live made top r visiting
-        keep-stop e = from-new (stopped given line (fit .short) (λ l. keep i x) c e)
-
-        module _ (few : live * 3 ≤ 2042) (low : r .top ≤ allowanceIn given) where
-          pub keep-fail : r .end ≡ FAILED → Came given line w (pairPut w′ (placeIn given line i x) 1 0) live made top (result FAILED 0 (r .top) (r .made)) visiting
-          unfolding keep keptAs
-          keep-fail e =
-              from-new
-              (then-fail given line (fit .short) (λ l. keep i x) c e
-              (keep-came fit (c .words) free few low i x li lx 1 0 (omega arith) (omega arith) FAILED _ (c .made-in) (omega arith) (λ z. absurd (omega arith))
-              (λ l s h. record { end = refl; stands = keep-stands fit (c .words) free few low i x li lx 1 0 (omega arith) (omega arith) fail refl l s h })))
-
-          pub keep-match : r .end < STOPPED → Came given line w (pairPut w′ (placeIn given line i x) (r .end + 2) (r .list)) live made top (result (r .end) (r .list) (r .top) (r .made)) visiting
-          unfolding keep keptAs
-          keep-match e =
-              let inside = c .end-in e in
-              let below = c .list-in e in
-              let two : r .end + 2 ≡ suc (suc (r .end)) = omega arith in
-              from-new
-              (then-match given line (fit .short) (λ l. keep i x) c e
-              (keep-came fit (c .words) free few low i x li lx (r .end + 2) (r .list) (omega arith) below (r .end) _ (c .made-in) (c .end-most) (λ z. inside)
-              (λ l s h. (
-                same-trees given line (keep-same fit (c .words) free few low i x li lx (r .end + 2) (r .list) (omega arith) below) (r .list) below,
-                record { end = refl; inside = inside; stands = keep-stands fit (c .words) free few low i x li lx (r .end + 2) (r .list) (omega arith) below (ok (r .end) (treesAt w′ (r .list))) (rw two refl) l s h },
-              ))))
-
-    -- The node was applied, and its answer kept.
-    module _ {w : List ℕ} {live made top : ℕ} (words : Words given line w live top) (free : keepsIn given ≡ true) (le : made ≤ allowanceIn given) (none-kept : getD w (placeIn given line i x) 0 ≡ 0)
-        {w′ : List ℕ} {end list top′ made′ : ℕ} (c : Came given line w w′ live made top (result end list top′ made′) (working (wayIn given)))
-        (few : live * 3 ≤ 2042) (low : top′ ≤ allowanceIn given) {w″ : List ℕ} (kept : Kept (lent [] (given .numbers)) line w′ w″ i x end list) where
-      by-end : (end ≡ STOPPED) ⊎ ((end ≡ FAILED) ⊎ (end < STOPPED)) → Came given line w w″ live made top (result end list top′ made′) visiting
-      by-end (inl e) = rw (kept .stopped e) (keep-stop words free le none-kept c e)
-      by-end (inr (inl e)) = came-failed given line (fit .short) 0 end list e (rw (kept .failed e) (keep-fail words free le none-kept c few low e))
-      by-end (inr (inr e)) = rw (kept .matched e) (keep-match words free le none-kept c few low e)
-
-      which : end ≤ FAILED → (end ≡ STOPPED) ⊎ ((end ≡ FAILED) ⊎ (end < STOPPED))
-      which h = by-same end STOPPED (λ e. inl e) (λ n. by-same end FAILED (λ e. inr (inl e)) (λ k. inr (inr (omega arith))))
-
-      pub applied-kept : Came given line w w″ live made top (result end list top′ made′) visiting
-      applied-kept = by-end (which (c .end-most))
+      -- The node was applied, and its answer kept.
+      pub applied-kept : getD w (placeIn given line i x) 0 ≡ 0 → {w′ : List ℕ} {end list top′ made′ : ℕ} → Came given line w w′ live made top (result end list top′ made′) (working (wayIn given))
+          → live * 3 ≤ 2041 → top′ ≤ allowanceIn given → {w″ : List ℕ} → Kept (lent [] (given .numbers)) line w′ w″ i x end list → Came given line w w″ live made top (result end list top′ made′) visiting
+      unfolding recall keptAs
+      applied-kept none-kept c few low k =
+          came-when given line (fit .short) visiting (kept-came fit free i x li lx c few low k)
+          (λ l s h. ap (λ b. after (working (wayOf b (growsIn given)) l s) (keep i x)) free ∙ recalled free l s none h (rw none-kept refl))

@@ -148,6 +148,8 @@ module _ (given : Given) (line : List ℕ) (fit : Fit given line) where
     live-same = record {
       uses = λ i h. use-other w (live * 3) (keyOf a x) end list i (omega arith) (omega arith) (omega arith);
       cells = λ i p q. use-other w (live * 3) (keyOf a x) end list i (omega arith) (omega arith) (omega arith);
+      turns = use-other w (live * 3) (keyOf a x) end list 2041 (omega arith) (omega arith) (omega arith);
+      waiting = λ i low p q. use-other w (live * 3) (keyOf a x) end list i (omega arith) (omega arith) (omega arith);
       past = λ i h. use-other w (live * 3) (keyOf a x) end list i (omega arith) (omega arith) (omega arith);
     }
 

@@ -1,26 +1,33 @@
 -- What the application of each kind of node comes to, return by return.
-use mathlib.Core.Path.{_≡_, refl, sym, ap}
+use mathlib.Core.Path.{_≡_, refl, sym, ap, _∙_}
 use mathlib.Core.Logic.{_≢_}
 use mathlib.Core.Bool.{Bool, true, false}
 use mathlib.Core.List.{List}
-use Prim.Native.Nat.{ℕ, _*_, _<_, _≤_}
+use Prim.Native.Nat.{ℕ, _+_, _*_, _<_, _≤_}
 use native.Mathlib.Omega.{arith}
 use lib.Dec.{eqb}
 use lib.ListN.{length}
-use borrow.Author.Tests.{eq-eqb, ne-eqb}
-use Rattle.meaning.specs.Grammar.{Trees, no-trees, tree, _⋈_, fail, ok, wrap, Note}
+use borrow.Author.Tests.{eq-eqb, ne-eqb, eqb-true, eqb-false}
+use Rattle.meaning.specs.Grammar.{Trees, no-trees, tree, _⋈_, Answer, fail, ok, wrap, Note}
 use Rattle.meaning.specs.Reading.{State, Run, done, after, Visit, joined, second, otherwise, denied, repeatFrom, repeated, wrapped}
 use Rattle.cells.specs.Cells.{treesAt}
 use Rattle.cells.proofs.Frame.{trees-none}
 use Rattle.visits.specs.Given.{Given, allowanceIn, Fit}
-use Rattle.visits.specs.Words.{Added, Words}
+use Rattle.visits.specs.Words.{turnsIn, Added, Words}
 use Rattle.visits.specs.Says.{Visited, FAILED, STOPPED, Came}
-use Rattle.visits.proofs.Frame.{same-trees}
+use Rattle.visits.proofs.Frame.{same-trees, made-same, made-words, made-stands}
 use Rattle.visits.proofs.Steps.{then-match, then-fail, stopped, unmatched, unfailed, came-as, still, came-made}
 
 -- The result of a step as it is written.
 abbrev pub result : (end list top made : ℕ) → Visited
 result end list top made = record { end = end; list = list; top = top; made = made }
+
+-- What is done after two runs is done after the first, then the second.
+pub after-twice : (m : Run) (k j : Answer → State → Run) → after (after m k) j ≡ after m (λ q t. after (k q t) j)
+unfolding after
+after-twice (Run.effort p s) k j = refl
+after-twice (Run.deep p s) k j = refl
+after-twice (Run.done r s) k j = refl
 
 module _ (given : Given) (line : List ℕ) (fit : Fit given line) where
   -- A match of nothing, and a failure, with no word changed.
@@ -30,6 +37,35 @@ module _ (given : Given) (line : List ℕ) (fit : Fit given line) where
 
     pub fail-still : Came given line w w live made top (result FAILED 0 top made) (λ l s. done fail s)
     fail-still = still given line (fit .short) FAILED 0 _ words le (omega arith) (λ z. absurd (omega arith)) (λ z. omega arith) (λ l s h. record { end = refl; stands = h })
+
+  -- A list was made; it is joined to the trees of a match, and a failure stays one.
+  module _ {w w₁ : List ℕ} {live top list top′ : ℕ} {us : Trees} (few : live * 3 ≤ 2041) (low : top + turnsIn w < allowanceIn given) (d : Added w w₁ top list top′ us) where
+    fail-made : {made : ℕ} → Words given line w live top → made ≤ allowanceIn given → Came given line w w₁ live made top (result FAILED list top′ made) (λ l s. done fail s)
+    fail-made h le = record {
+      same = made-same given line fit few low d;
+      words = made-words given line fit few low d h;
+      end-most = omega arith;
+      end-in = λ z. absurd (omega arith);
+      list-in = λ z. d .within;
+      top-up = d .rise;
+      made-up = omega arith;
+      made-in = le;
+      says = λ l s g. record { end = refl; stands = made-stands given line fit few low d h g };
+    }
+
+  pub came-joined : {w w₁ w₂ : List ℕ} {live made top end list made₁ top₁ list₂ top₂ : ℕ} {m : List Note → State → Run} → live * 3 ≤ 2041 → top₁ + turnsIn w₁ < allowanceIn given → (ts : Trees)
+      → Came given line w w₁ live made top (result end list top₁ made₁) m → end ≢ STOPPED → Added w₁ w₂ top₁ list₂ top₂ (ts ⋈ treesAt w₁ list)
+      → Came given line w w₂ live made top (result end list₂ top₂ made₁) (λ l s. after (m l s) (joined ts))
+  unfolding joined
+  came-joined {w} {w₁} {w₂} {live} {made} {top} {end} {list} {made₁} {top₁} {list₂} {top₂} {m} few low ts c on d = by (eqb end FAILED) refl
+    where
+      by : (t : Bool) → eqb end FAILED ≡ t → Came given line w w₂ live made top (result end list₂ top₂ made₁) (λ l s. after (m l s) (joined ts))
+      by true q = let e : end ≡ FAILED = eqb-true end FAILED q in rw e (then-fail given line (fit .short) (λ l. joined ts) c e (fail-made few low d (c .words) (c .made-in)))
+      by false q =
+          let n : end ≢ FAILED = eqb-false end FAILED q in
+          let most = c .end-most in
+          let lt : end < STOPPED = omega arith in
+          then-match given line (fit .short) (λ l. joined ts) c lt (came-made given line (fit .short) end fit few low d (c .words) (c .made-in) (c .end-in lt))
 
   module _ {w₀ w₁ : List ℕ} {live made top : ℕ} {a : Visited} (v : List Note → Visit) (x pos : ℕ) (A : Came given line w₀ w₁ live made top a (λ l s. v l x pos s)) where
     -- Sequence.
@@ -46,7 +82,7 @@ module _ (given : Given) (line : List ℕ) (fit : Fit given line) where
         unfolding second joined
         seq-second g = then-match given line (fit .short) (λ l. second (v l) y) A h (unmatched given line (fit .short) (λ l. joined (treesAt w₁ (a .list))) B g (λ l s. refl))
 
-        pub seq-join : b .end < STOPPED → live * 3 ≤ 2042 → b .top < allowanceIn given → {w₃ : List ℕ} {list top′ : ℕ}
+        pub seq-join : b .end < STOPPED → live * 3 ≤ 2041 → b .top + turnsIn w₂ < allowanceIn given → {w₃ : List ℕ} {list top′ : ℕ}
             → Added w₂ w₃ (b .top) list top′ (treesAt w₂ (a .list) ⋈ treesAt w₂ (b .list)) → Came given line w₀ w₃ live made top (result (b .end) list top′ (b .made)) sequence
         unfolding second joined
         seq-join g few low {w₃} {list} {top′} m =
@@ -84,49 +120,46 @@ module _ (given : Given) (line : List ℕ) (fit : Fit given line) where
     unfolding denied
     not-fail h = then-match given line (fit .short) (λ l. denied pos) A h (fail-still (A .words) (A .made-in))
 
-    -- Repetition of node i.
-    module _ (i : ℕ) where
+    -- Repetition of node i; u makes its own next visit.
+    module _ (u : List Note → Visit) (i : ℕ) where
       abbrev repeating : List Note → State → Run
-      repeating l s = after (v l x pos s) (repeated (v l) i pos)
+      repeating l s = after (v l x pos s) (repeated (u l) i pos)
 
       pub rep-stop : a .end ≡ STOPPED → Came given line w₀ w₁ live made top a repeating
-      rep-stop h = stopped given line (fit .short) (λ l. repeated (v l) i pos) A h
+      rep-stop h = stopped given line (fit .short) (λ l. repeated (u l) i pos) A h
 
       pub rep-none : a .end ≡ FAILED → pos ≤ length line → Came given line w₀ w₁ live made top (result pos 0 (a .top) (a .made)) repeating
       unfolding repeated
-      rep-none h inside = then-fail given line (fit .short) (λ l. repeated (v l) i pos) A h (match-still (A .words) (A .made-in) pos inside)
+      rep-none h inside = then-fail given line (fit .short) (λ l. repeated (u l) i pos) A h (match-still (A .words) (A .made-in) pos inside)
 
-      again-at : (e : ℕ) (t : Bool) → eqb pos e ≡ t → (l : List Note) (ts : Trees) (s : State) → repeatFrom (v l) i pos e ts s t ≡ repeated (v l) i pos (ok e ts) s
+      again-at : (e : ℕ) (t : Bool) → eqb pos e ≡ t → (l : List Note) (ts : Trees) (s : State) → repeatFrom (u l) i pos e ts s t ≡ repeated (u l) i pos (ok e ts) s
       unfolding repeated
-      again-at e t q l ts s = ap (repeatFrom (v l) i pos e ts s) (sym q)
+      again-at e t q l ts s = ap (repeatFrom (u l) i pos e ts s) (sym q)
 
       pub rep-empty : a .end ≡ pos → pos ≤ length line → Came given line w₀ w₁ live made top (result pos 0 (a .top) (a .made)) repeating
       unfolding repeatFrom
       rep-empty h inside =
           let s = fit .short in
-          then-match given line (fit .short) (λ l. repeated (v l) i pos) A (omega arith)
+          then-match given line (fit .short) (λ l. repeated (u l) i pos) A (omega arith)
           (came-as given line (fit .short) _ (match-still (A .words) (A .made-in) pos inside) (λ l s. again-at (a .end) true (eq-eqb pos (a .end) (sym h)) l (treesAt w₁ (a .list)) s))
 
-      module _ (h : a .end < STOPPED) (ne : a .end ≢ pos) {w₂ : List ℕ} {b : Visited} (B : Came given line w₁ w₂ live (a .made) (a .top) b (λ l s. v l i (a .end) s)) where
-        on-from : {w₃ : List ℕ} {r : Visited} → Came given line w₁ w₃ live (a .made) (a .top) r (λ l s. after (v l i (a .end) s) (joined (treesAt w₁ (a .list)))) → Came given line w₀ w₃ live made top r repeating
+      -- Another turn.
+      module _ (h : a .end < STOPPED) (ne : a .end ≢ pos) where
+        again : (l : List Note) (s : State) → after (u l i (a .end) s) (joined (treesAt w₁ (a .list))) ≡ repeated (u l) i pos (ok (a .end) (treesAt w₁ (a .list))) s
         unfolding repeatFrom
-        on-from C =
-            then-match given line (fit .short) (λ l. repeated (v l) i pos) A h
-            (came-as given line (fit .short) _ C (λ l s. again-at (a .end) false (ne-eqb pos (a .end) (λ e. ne (sym e))) l (treesAt w₁ (a .list)) s))
+        again l s = again-at (a .end) false (ne-eqb pos (a .end) (λ e. ne (sym e))) l (treesAt w₁ (a .list)) s
 
-        pub rep-next : STOPPED ≤ b .end → Came given line w₀ w₂ live made top b repeating
-        unfolding joined
-        rep-next g = on-from (unmatched given line (fit .short) (λ l. joined (treesAt w₁ (a .list))) B g (λ l s. refl))
+        pub rep-on : {w₂ : List ℕ} {r : Visited} → Came given line w₁ w₂ live (a .made) (a .top) r (λ l s. after (u l i (a .end) s) (joined (treesAt w₁ (a .list)))) → Came given line w₀ w₂ live made top r repeating
+        rep-on C = then-match given line (fit .short) (λ l. repeated (u l) i pos) A h (came-as given line (fit .short) _ C again)
 
-        pub rep-join : b .end < STOPPED → live * 3 ≤ 2042 → b .top < allowanceIn given → {w₃ : List ℕ} {list top′ : ℕ}
-            → Added w₂ w₃ (b .top) list top′ (treesAt w₂ (a .list) ⋈ treesAt w₂ (b .list)) → Came given line w₀ w₃ live made top (result (b .end) list top′ (b .made)) repeating
-        unfolding joined
-        rep-join g few low {w₃} {list} {top′} m =
-            let e : treesAt w₂ (a .list) ≡ treesAt w₁ (a .list) = same-trees given line (B .same) (a .list) (A .list-in h) in
-            let n : Added w₂ w₃ (b .top) list top′ (treesAt w₁ (a .list) ⋈ treesAt w₂ (b .list)) = rw e at m in
-            on-from
-            (then-match given line (fit .short) (λ l. joined (treesAt w₁ (a .list))) B g
-            (came-made given line (fit .short) (b .end) fit few low n (B .words) (B .made-in) (B .end-in g)))
+        -- The same, with what is done after it.
+        pub rep-turn : {w₂ : List ℕ} {r : Visited} (k : Answer → State → Run) → Came given line w₁ w₂ live (a .made) (a .top) r (λ l s. after (u l i (a .end) s) (λ q t. after (joined (treesAt w₁ (a .list)) q t) k))
+            → Came given line w₀ w₂ live made top r (λ l s. after (repeating l s) k)
+        rep-turn k C =
+            came-as given line (fit .short) _
+            (then-match given line (fit .short) (λ l q t. after (repeated (u l) i pos q t) k) A h
+            (came-as given line (fit .short) _ C (λ l s. sym (after-twice (u l i (a .end) s) (joined (treesAt w₁ (a .list))) k) ∙ ap (λ m. after m k) (again l s))))
+            (λ l s. sym (after-twice (v l x pos s) (repeated (u l) i pos) k))
 
     -- A use of a rule that doesn't become live; x is its root.
     module _ (rule : ℕ) where
@@ -137,7 +170,7 @@ module _ (given : Given) (line : List ℕ) (fit : Fit given line) where
       unfolding wrapped wrap
       use-unmatched h = unmatched given line (fit .short) (λ l. wrapped rule pos) A h (λ l s. refl)
 
-      pub use-tree : a .end < STOPPED → live * 3 ≤ 2042 → a .top < allowanceIn given → {w₂ : List ℕ} {list top′ : ℕ}
+      pub use-tree : a .end < STOPPED → live * 3 ≤ 2041 → a .top + turnsIn w₁ < allowanceIn given → {w₂ : List ℕ} {list top′ : ℕ}
           → Added w₁ w₂ (a .top) list top′ (tree rule pos (a .end) (treesAt w₁ (a .list)) no-trees) → Came given line w₀ w₂ live made top (result (a .end) list top′ (a .made)) useFree
       unfolding wrapped wrap
       use-tree h few low m =

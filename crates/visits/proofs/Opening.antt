@@ -1,21 +1,21 @@
 -- A visit that is counted and open: by the answer that is kept, or by the node's application.
-use mathlib.Core.Path.{_≡_, refl, ap, _∙_}
+use mathlib.Core.Path.{_≡_, refl, sym, ap, _∙_}
 use mathlib.Core.Logic.{_≢_, inl, inr}
 use mathlib.Core.Bool.{true, false}
 use mathlib.Core.List.{List, []}
-use Prim.Native.Nat.{ℕ, _+_, _-_, _*_, _<_, _≤_}
+use Prim.Native.Nat.{ℕ, suc, _+_, _-_, _*_, _<_, _≤_}
 use native.Mathlib.Omega.{arith}
 use lib.ListN.{length, getD, set}
 use Rattle.meaning.proofs.Answers.{clash}
 use Rattle.layout.proofs.Laying.{well-laid}
 use Rattle.visits.specs.Given.{Given, lent, nodesIn, keepsIn, allowanceIn, roomIn, leftIn, liveIn, posIn, Fit}
 use Rattle.visits.specs.Words.{topIn, madeIn, placeIn, Entered, Roomy, Kept}
-use Rattle.visits.specs.Says.{FAILED, STOPPED, endIn, listIn, Came, reading, applies, opens, Starts, Ends, EndsVisit}
+use Rattle.visits.specs.Says.{FAILED, STOPPED, endIn, listIn, KeptAnswer, Came, reading, applies, opens, Starts, Ends, EndsVisit}
 use Rattle.visits.proofs.Frame.{pair-in}
 use Rattle.visits.proofs.Steps.{came-at}
 use Rattle.visits.proofs.Nodes.{result}
 use Rattle.visits.proofs.Entering.{enter-effort, enter-deep, enter-open}
-use Rattle.visits.proofs.Keeping.{by-same, put-other, visited-plain, visited-fail, visited-match, applied-kept}
+use Rattle.visits.proofs.Keeping.{by-same, kept-others, visited-plain, visited-fail, visited-match, applied-kept}
 use Rattle.visits.proofs.Depth.{left-less, pos-less, space-open, starts-open, came-open, cells-open}
 
 -- There is room for what is kept.
@@ -25,29 +25,27 @@ roomy given line w i x fit room li lx =
     let n = well-laid (given .table) (fit .laid) .few-nodes in
     record { short = fit .short; allowance = fit .allowance; node-in = omega arith; pos-in = lx; room = omega arith }
 
--- What is kept lies above the words of the cells in use and of the visits made.
-pub kept-above : (given : Given) (line old new : List ℕ) (i x end list j : ℕ) → Kept given line old new i x end list → end ≤ FAILED → j < 2048 → getD new j 0 ≡ getD old j 0
-kept-above given line old new i x end list j k most h = by-same end STOPPED (λ e. ap (λ w. getD w j 0) (k .stopped e))
-    (λ n. by-same end FAILED (λ e. ap (λ w. getD w j 0) (k .failed e) ∙ put-other old (placeIn given line i x) 1 0 j (omega arith) (omega arith))
-    (λ m. ap (λ w. getD w j 0) (k .matched (omega arith)) ∙ put-other old (placeIn given line i x) (end + 2) list j (omega arith) (omega arith)))
-
 -- A visit that is counted and open, from the words w, where answers are kept.
 module _ (given : Given) (line w : List ℕ) (spot node pos : ℕ) (ready : Starts given line w spot node pos) (room : liveIn spot + leftIn spot ≤ 512) (free : keepsIn given ≡ true) (w₁ : List ℕ) (is : w₁ ≡ w) (r : ℕ) where
   abbrev word : ℕ
   word = getD w (placeIn given line node pos) 0
 
-  few : liveIn spot * 3 ≤ 2042
+  few : liveIn spot * 3 ≤ 2041
   few = omega arith
 
   still-open : (end list : ℕ) → endIn r ≡ end → listIn r ≡ list → Came given line w w (liveIn spot) (madeIn w) (topIn w) (result end list (topIn w) (madeIn w)) (λ l s. opens given line (leftIn spot) l node pos s)
       → Ends given line w w₁ spot r (λ l s. opens given line (leftIn spot) l node pos s)
   still-open end list e f c = rw is (record { came = came-at given line (ready .fit .short) (endIn r) (listIn r) (topIn w) (madeIn w) e f refl refl c; cells = omega arith; ahead = λ p. clash free p })
 
-  pub kept-failure : word ≡ 1 → endIn r ≡ FAILED → listIn r ≡ 0 → Ends given line w w₁ spot r (λ l s. opens given line (leftIn spot) l node pos s)
-  kept-failure k e f = still-open FAILED 0 e f (visited-fail given line (ready .fit) (reading given line (leftIn spot)) node pos (ready .node-in) (ready .pos-in) (ready .words) free (ready .made-in) k)
+  kept-failure : word ≡ 1 → endIn r ≡ FAILED → listIn r ≡ 0 → Ends given line w w₁ spot r (λ l s. opens given line (leftIn spot) l node pos s)
+  kept-failure k e f = still-open FAILED 0 e f (visited-fail given line (ready .fit) (reading given line (leftIn spot)) (reading given line (suc (leftIn spot))) node pos (ready .node-in) (ready .pos-in) (ready .words) free (ready .made-in) k)
 
-  pub kept-match : 1 < word → endIn r ≡ word - 2 → listIn r ≡ getD w (placeIn given line node pos + 1) 0 → Ends given line w w₁ spot r (λ l s. opens given line (leftIn spot) l node pos s)
-  kept-match k e f = still-open _ _ e f (visited-match given line (ready .fit) (reading given line (leftIn spot)) node pos (ready .node-in) (ready .pos-in) (ready .words) free (ready .made-in) (word - 2) (omega arith))
+  kept-match : 1 < word → endIn r ≡ word - 2 → listIn r ≡ getD w (placeIn given line node pos + 1) 0 → Ends given line w w₁ spot r (λ l s. opens given line (leftIn spot) l node pos s)
+  kept-match k e f = still-open _ _ e f (visited-match given line (ready .fit) (reading given line (leftIn spot)) (reading given line (suc (leftIn spot))) node pos (ready .node-in) (ready .pos-in) (ready .words) free (ready .made-in) (word - 2) (omega arith))
+
+  pub kept-answered : (n : ℕ) → n ≡ word → n ≢ 0 → KeptAnswer (lent [] (given .numbers)) line w node pos n r → Ends given line w w₁ spot r (λ l s. opens given line (leftIn spot) l node pos s)
+  kept-answered n e some k = by-same n 1 (λ one. kept-failure (sym e ∙ one) (k .failed one .0) (k .failed one .1))
+      (λ other. let more : 1 < n = omega arith in kept-match (omega arith) (k .matched more .0 ∙ ap (λ m. m - 2) e) (k .matched more .1))
 
   -- The node is applied, and its answer kept.
   module _ (none : word ≡ 0) (w₂ w₃ : List ℕ) (applied : Ends given line w₁ w₂ spot r (λ l s. applies given line (leftIn spot) l node pos s))
@@ -56,10 +54,10 @@ module _ (given : Given) (line w : List ℕ) (spot node pos : ℕ) (ready : Star
     e = rw is at applied
 
     top-kept : topIn w₃ ≡ topIn w₂
-    top-kept = kept-above (lent [] (given .numbers)) line w₂ w₃ node pos (endIn r) (listIn r) 2042 k (e .came .end-most) (omega arith)
+    top-kept = kept-others (lent [] (given .numbers)) line w₂ w₃ node pos (endIn r) (listIn r) 2042 k (e .came .end-most) (omega arith)
 
     made-kept : madeIn w₃ ≡ madeIn w₂
-    made-kept = kept-above (lent [] (given .numbers)) line w₂ w₃ node pos (endIn r) (listIn r) 2043 k (e .came .end-most) (omega arith)
+    made-kept = kept-others (lent [] (given .numbers)) line w₂ w₃ node pos (endIn r) (listIn r) 2043 k (e .came .end-most) (omega arith)
 
     pub open-applied : Ends given line w w₃ spot r (λ l s. opens given line (leftIn spot) l node pos s)
     open-applied =
@@ -68,7 +66,7 @@ module _ (given : Given) (line w : List ℕ) (spot node pos : ℕ) (ready : Star
         let c = e .cells in
         record {
           came = came-at given line (ready .fit .short) (endIn r) (listIn r) (topIn w₃) (madeIn w₃) refl refl top-kept made-kept
-              (applied-kept given line (ready .fit) (reading given line (leftIn spot)) node pos (ready .node-in) (ready .pos-in) (ready .words) free (ready .made-in) none (e .came) few (omega arith) k);
+              (applied-kept given line (ready .fit) (reading given line (leftIn spot)) (reading given line (suc (leftIn spot))) node pos (ready .node-in) (ready .pos-in) (ready .words) free (ready .made-in) none (e .came) few (omega arith) k);
           cells = omega (arith, top-kept, made-kept);
           ahead = e .ahead;
         }
@@ -100,7 +98,7 @@ module _ (given : Given) (line w : List ℕ) (spot node : ℕ) (ready : Starts g
       = record { came = rw (o .counted, o .there) at e .came; cells = rw (o .counted) at e .cells; ahead = e .ahead } in
       let c = cells-open given line w spot node (posIn spot) ready (o .more) (o .some) r h in
       record {
-        came = enter-open given line (ready .fit) (leftIn spot) (leftIn (spot - 1)) node (posIn spot) (left-less spot (o .some)) (o .more) (let f = ready .open-in in omega arith) (ready .words)
+        came = enter-open given line (ready .fit) (λ m. m) (leftIn spot) (leftIn (spot - 1)) node (posIn spot) (left-less spot (o .some)) (o .more) (let f = ready .open-in in omega arith) (ready .words)
             (came-open given line w spot node (posIn spot) ready (o .more) (o .some) r h);
         cells = omega arith;
         fewer = λ h. omega arith;
@@ -111,7 +109,7 @@ module _ (given : Given) (line w : List ℕ) (spot node : ℕ) (ready : Starts g
 pub plain-opens : (given : Given) (line w : List ℕ) (spot node pos : ℕ) → Starts given line w spot node pos → keepsIn given ≡ false → (w′ : List ℕ) (r : ℕ)
     → Ends given line w w′ spot r (λ l s. applies given line (leftIn spot) l node pos s) → Ends given line w w′ spot r (λ l s. opens given line (leftIn spot) l node pos s)
 plain-opens given line w spot node pos ready plain w′ r e = record {
-  came = visited-plain given line (ready .fit) (reading given line (leftIn spot)) node pos (ready .node-in) (ready .pos-in) plain (e .came);
+  came = visited-plain given line (ready .fit) (reading given line (leftIn spot)) (reading given line (suc (leftIn spot))) node pos (ready .node-in) (ready .pos-in) plain (e .came);
   cells = e .cells;
   ahead = e .ahead;
 }

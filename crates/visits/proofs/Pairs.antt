@@ -1,4 +1,4 @@
--- Two visits one after the other, of a sequence or of a repetition: where the second starts, and what comes of both.
+-- Two visits one after the other, of a sequence: where the second starts, and what comes of both.
 use mathlib.Core.Path.{_≡_, refl, _∙_}
 use mathlib.Core.Logic.{_≢_}
 use mathlib.Core.Bool.{false}
@@ -7,14 +7,14 @@ use Prim.Native.Nat.{ℕ, _+_, _*_, _<_, _≤_}
 use native.Mathlib.Omega.{arith}
 use lib.ListN.{length}
 use Rattle.meaning.specs.Grammar.{Trees, _⋈_, Note}
-use Rattle.meaning.specs.Reading.{State, Run, after, second, repeated}
+use Rattle.meaning.specs.Reading.{State, Run, after, second}
 use Rattle.cells.specs.Cells.{treesAt}
 use Rattle.cells.specs.Arena.{Arena}
 use Rattle.visits.specs.Given.{Given, nodesIn, keepsIn, allowanceIn, leftIn, liveIn}
-use Rattle.visits.specs.Words.{topIn, madeIn, Added}
+use Rattle.visits.specs.Words.{turnsIn, topIn, madeIn, Added}
 use Rattle.visits.specs.Says.{FAILED, STOPPED, reading, endIn, listIn, after-visit, Came, Visits, Starts, Ends, EndsVisit}
 use Rattle.visits.proofs.Steps.{came-at}
-use Rattle.visits.proofs.Nodes.{seq-second, seq-join, rep-next, rep-join}
+use Rattle.visits.proofs.Nodes.{seq-second, seq-join}
 use Rattle.visits.proofs.Ready.{ready-next}
 
 -- Cells that are added do not change how many visits are made.
@@ -36,9 +36,6 @@ module _ (given : Given) (line : List ℕ) {w₀ w₁ : List ℕ} (spot x pos a 
   abbrev sequence : List Note → State → Run
   sequence l s = after (reading given line (leftIn spot) l x pos s) (second (reading given line (leftIn spot) l) y)
 
-  abbrev repetition : List Note → State → Run
-  repetition l s = after (reading given line (leftIn spot) l x pos s) (repeated (reading given line (leftIn spot) l) y pos)
-
   module _ {w₂ : List ℕ} (b : ℕ) (next : Visits given line w₁ w₂ (liveIn spot) end (madeIn w₁) (topIn w₁) (after-visit b w₂) (λ l s. reading given line (leftIn spot) l y end s)) (last : ℕ) (lasts : last ≡ endIn b) where
     came-next : Came given line w₁ w₂ (liveIn spot) (madeIn w₁) (topIn w₁) (after-visit b w₂) (λ l s. reading given line (leftIn spot) l y (endIn a) s)
     came-next = rw ends at next .came
@@ -52,13 +49,6 @@ module _ (given : Given) (line : List ℕ) {w₀ w₁ : List ℕ} (spot x pos a 
         ahead = λ p. omega (arith, first .ahead p, next .ahead p);
       }
 
-      pub repetition-second : end ≢ pos → Ends given line w₀ w₂ spot b repetition
-      repetition-second on = record {
-        came = rep-next given line (ready .fit) (reading given line (leftIn spot)) x pos (first .came) y less (λ e. on (ends ∙ e)) came-next (omega arith);
-        cells = omega (arith, first .cells, next .cells);
-        ahead = λ p. omega (arith, first .ahead p, next .ahead p);
-      }
-
     -- Both matched: each made fewer cells than visits, so that there is room for the cell that joins their trees.
     module _ (both : last < STOPPED) where
       reached : endIn b < STOPPED
@@ -67,8 +57,8 @@ module _ (given : Given) (line : List ℕ) {w₀ w₁ : List ℕ} (spot x pos a 
       cells-left : topIn w₂ + madeIn w₀ + 2 ≤ topIn w₀ + madeIn w₂
       cells-left = omega (arith, first .fewer less, next .fewer reached)
 
-      low : topIn w₂ < allowanceIn given
-      low = omega (arith, cells-left, ready .top-in, next .came .made-in)
+      low : topIn w₂ + turnsIn w₂ < allowanceIn given
+      low = omega (arith, cells-left, ready .top-in, next .came .made-in, first .came .same .turns, next .came .same .turns)
 
       module _ {left right : ℕ} (lists : left ≡ listIn a) (listed : right ≡ listIn b) where
         pub join-ready : (Arena w₂ (topIn w₂) × ((left ≤ topIn w₂) × (right ≤ topIn w₂))) × ((2048 + 4 * topIn w₂ + 3 < length w₂) × (topIn w₂ < 1073741823))
@@ -92,14 +82,6 @@ module _ (given : Given) (line : List ℕ) {w₀ w₁ : List ℕ} (spot x pos a 
           sequence-joined = record {
             came = came-at given line (ready .fit .short) (endIn r) (listIn r) (topIn w₃) (madeIn w₃) (is ∙ lasts) refl refl (added-made d)
                 (seq-join given line (ready .fit) (reading given line (leftIn spot)) x pos (first .came) y less came-next reached (omega arith) low added);
-            cells = cells-joined;
-            ahead = λ p. omega (arith, first .ahead p, next .ahead p);
-          }
-
-          pub repetition-joined : end ≢ pos → Ends given line w₀ w₃ spot r repetition
-          repetition-joined on = record {
-            came = came-at given line (ready .fit .short) (endIn r) (listIn r) (topIn w₃) (madeIn w₃) (is ∙ lasts) refl refl (added-made d)
-                (rep-join given line (ready .fit) (reading given line (leftIn spot)) x pos (first .came) y less (λ e. on (ends ∙ e)) came-next reached (omega arith) low added);
             cells = cells-joined;
             ahead = λ p. omega (arith, first .ahead p, next .ahead p);
           }

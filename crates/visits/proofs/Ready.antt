@@ -3,7 +3,7 @@ use mathlib.Core.Path.{_≡_, sym, subst, ap}
 use mathlib.Core.Bool.{false}
 use mathlib.Core.Logic.{_≢_}
 use mathlib.Core.List.{List}
-use Prim.Native.Nat.{ℕ, _+_, _*_, _<_, _≤_}
+use Prim.Native.Nat.{ℕ, suc, _+_, _*_, _<_, _≤_}
 use native.Mathlib.Omega.{arith}
 use lib.ListN.{length, getD}
 use Rattle.meaning.specs.Grammar.{node, rootOf, Below, Note}
@@ -13,10 +13,10 @@ use Rattle.layout.specs.Layout.{Laid}
 use Rattle.layout.proofs.Laying.{well-laid, node-count, rule-count, closed}
 use Rattle.layout.proofs.Laying.{root-is as root-of-grammar, node-as as node-of-table}
 use Rattle.visits.specs.Given.{Given, kindIn, aIn, bIn, rootIn, nodesIn, rulesIn, keepsIn, grammarIn, Fit}
-use Rattle.visits.specs.Words.{keyOf, InOrder}
+use Rattle.visits.specs.Words.{keyOf, turnsIn, InOrder}
 use Rattle.visits.specs.Says.{Visited, Ready, Came, reading, uses, applies}
 use Rattle.visits.proofs.Steps.{came-as}
-use Rattle.visits.proofs.Living.{usePut, live-words, order-same, live-order}
+use Rattle.visits.proofs.Living.{usePut, live-same, live-words, order-same, live-order}
 use Rattle.visits.proofs.Growing.{Growing}
 
 module _ {given : Given} {line : List ℕ} where
@@ -24,6 +24,7 @@ module _ {given : Given} {line : List ℕ} where
       → a .top + made ≤ top + a .made → y < nodesIn given → end ≤ length line → (keepsIn given ≡ false → pos ≤ end) → Ready given line w′ left live (a .made) (a .top) y end
   ready-next y end r c cells ly inside up =
       let t = r .top-in in
+      let u = c .same .turns in
       record { fit = r .fit; words = c .words; node-in = ly; pos-in = inside; open-in = r .open-in; made-in = c .made-in; top-in = omega arith; order = λ p. order-same given line (c .same) (up p) (r .order p) }
 
   pub ready-live : {w w′ : List ℕ} {left live made top root pos : ℕ} (rule end list : ℕ) → Ready given line w left live made top root pos → live + left ≤ 512 → end ≤ length line → list ≤ top
@@ -35,15 +36,16 @@ module _ {given : Given} {line : List ℕ} where
     pos-in = r .pos-in;
     open-in = omega arith;
     made-in = r .made-in;
-    top-in = r .top-in;
+    top-in = let t = r .top-in in let u = live-same given line (r .fit) rule pos end list (r .words) (omega arith) inside below .turns in omega arith;
     order = λ p. live-order given line (r .fit) rule pos end list (r .words) (omega arith) inside below small (up p) (r .order p);
   })
 
   -- Another attempt of the growing loop.
-  pub ready-loop : {w₀ : List ℕ} {left live made top root pos : ℕ} {v : List Note → Visit} {a x end₀ made₀ top₀ : ℕ} {w₁ w : List ℕ} {end made′ top′ : ℕ} → Ready given line w₀ left live made top root pos → top₀ ≤ made₀ → (keepsIn given ≡ false → InOrder w live pos)
+  pub ready-loop : {w₀ : List ℕ} {left live made top root pos : ℕ} {v : List Note → Visit} {a x end₀ made₀ top₀ : ℕ} {w₁ w : List ℕ} {end made′ top′ : ℕ} → Ready given line w₀ left live made top root pos → top₀ + turnsIn w₁ ≤ made₀ → (keepsIn given ≡ false → InOrder w live pos)
       → Growing given line v root a x live w₁ end₀ made₀ top₀ w end made′ top′ → Ready given line w left live made′ top′ root pos
   ready-loop r le order g =
       let c = g .cells in
+      let u = g .same .turns in
       record { fit = r .fit; words = g .words; node-in = r .node-in; pos-in = r .pos-in; open-in = r .open-in; made-in = g .made-in; top-in = omega arith; order = order }
 
   -- What is asked for a node's kind and fields.
@@ -65,7 +67,7 @@ module _ (given : Given) (line : List ℕ) (fit : Fit given line) where
   root-in a h = well-laid (given .table) (fit .laid) .roots a h
 
   module _ (i k : ℕ) (li : i < nodesIn given) (is : kindIn given i ≡ k) where
-    node-as : node (grammarIn given) i ≡ decode k (aIn given i) (bIn given i)
+    pub node-as : node (grammarIn given) i ≡ decode k (aIn given i) (bIn given i)
     node-as = node-of-table (given .table) i li k is
 
     pub below-as : Below (grammarIn given) i (decode k (aIn given i) (bIn given i))
@@ -73,6 +75,6 @@ module _ (given : Given) (line : List ℕ) (fit : Fit given line) where
 
     -- What its application is.
     pub applied-as : {w w′ : List ℕ} {live made top : ℕ} {r : Visited} (left pos : ℕ)
-        → Came given line w w′ live made top r (λ l s. apply line (reading given line left l) (uses given line left l) i pos s (decode k (aIn given i) (bIn given i)))
+        → Came given line w w′ live made top r (λ l s. apply line (reading given line left l) (reading given line (suc left) l) (uses given line left l) i pos s (decode k (aIn given i) (bIn given i)))
         → Came given line w w′ live made top r (λ l s. applies given line left l i pos s)
-    applied-as left pos c = came-as given line (fit .short) _ c (λ l s. ap (apply line (reading given line left l) (uses given line left l) i pos s) (sym node-as))
+    applied-as left pos c = came-as given line (fit .short) _ c (λ l s. ap (apply line (reading given line left l) (reading given line (suc left) l) (uses given line left l) i pos s) (sym node-as))

@@ -2,14 +2,14 @@
 use mathlib.Core.Path.{_≡_, refl, subst, ap₂}
 use mathlib.Core.Logic.{_≢_}
 use mathlib.Core.List.{List}
-use Prim.Native.Nat.{ℕ, _*_, _<_, _≤_}
+use Prim.Native.Nat.{ℕ, _+_, _*_, _<_, _≤_}
 use native.Mathlib.Omega.{arith}
 use lib.ListN.{length}
 use Rattle.meaning.specs.Grammar.{Trees, Answer, fail, ok, Note}
 use Rattle.meaning.specs.Reading.{State, Run, effort, deep, done, after}
 use Rattle.cells.specs.Cells.{treesAt}
 use Rattle.visits.specs.Given.{Given, allowanceIn, Fit}
-use Rattle.visits.specs.Words.{Added, Stands, Words, Same}
+use Rattle.visits.specs.Words.{turnsIn, Added, Stands, Words, Same}
 use Rattle.visits.specs.Says.{Visited, FAILED, STOPPED, Says, Came}
 use Rattle.visits.proofs.Frame.{same-none, same-then, made-same, made-words, made-stands}
 
@@ -143,7 +143,7 @@ module _ (given : Given) (line : List ℕ) (short : length line ≤ 255) where
   }
 
   -- A match whose trees were made last.
-  pub came-made : {w w′ : List ℕ} {live made top list top′ : ℕ} {ts : Trees} (end : ℕ) → Fit given line → live * 3 ≤ 2042 → top < allowanceIn given → Added w w′ top list top′ ts
+  pub came-made : {w w′ : List ℕ} {live made top list top′ : ℕ} {ts : Trees} (end : ℕ) → Fit given line → live * 3 ≤ 2041 → top + turnsIn w < allowanceIn given → Added w w′ top list top′ ts
       → Words given line w live top → made ≤ allowanceIn given → end ≤ length line
       → Came given line w w′ live made top (record { end = end; list = list; top = top′; made = made }) (λ l s. done (ok end ts) s)
   came-made end fit few low d h le inside = record {

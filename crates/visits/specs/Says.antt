@@ -1,19 +1,19 @@
 -- What the functions of a visit ask, and what their results say of the reading.
-use Prim.Native.Nat.{ℕ, _+_, _*_, _/_, _%_, _<_, _≤_}
+use Prim.Native.Nat.{ℕ, suc, _+_, _-_, _*_, _/_, _%_, _<_, _≤_}
 use mathlib.Core.Path.{_≡_}
-use mathlib.Core.List.{List}
+use mathlib.Core.List.{List, [], _∷_}
 use mathlib.Core.Logic.{_≢_}
-use lib.ListN.{length, getD}
+use lib.ListN.{length, getD, set}
 use mathlib.Core.Bool.{true, false}
 use Rattle.meaning.specs.Grammar.{Answer, fail, ok, fits, Note, node}
-use Rattle.meaning.specs.Reading.{State, Run, effort, deep, done, EFFORT, DEEP, Visit, after, byte, second, otherwise, denied, repeated, wrapped, apply, useBy, useRule, visited, visit}
+use Rattle.meaning.specs.Reading.{State, Run, effort, deep, done, EFFORT, DEEP, Visit, after, byte, joined, second, otherwise, denied, wrapped, apply, keep, useBy, useRule, visited, visit}
 use Rattle.cells.specs.Cells.{treesAt}
 use Rattle.visits.specs.Given.{Given, kindIn, aIn, bIn, nodesIn, keepsIn, wayIn, allowanceIn, rootIn, grammarIn, Fit, leftIn, liveIn, posIn}
 pub use Rattle.visits.specs.Words.{FAILED, STOPPED}
-use Rattle.visits.specs.Words.{topIn, madeIn, furthestIn, placeIn, InOrder, Stands, Words, Same}
+use Rattle.visits.specs.Words.{turnsWord, turnsIn, topIn, madeIn, furthestIn, placeIn, Turn, Waiting, InOrder, Stands, Words, Same}
 
 -- The reading that the functions follow: a visit with so many open visits left, a use of a rule, a use that becomes
--- live, a node's application, and a visit that is counted and open.
+-- live, a node's application, and a visit that is counted and open. A visit in place of an open one has its place too.
 abbrev pub reading : Given → List ℕ → ℕ → List Note → Visit
 reading given line left = visit (grammarIn given) line (wayIn given) left
 
@@ -24,10 +24,10 @@ abbrev pub grows : Given → List ℕ → ℕ → List Note → Visit
 grows given line left = useBy (grammarIn given) line true (reading given line left)
 
 abbrev pub applies : Given → List ℕ → ℕ → List Note → Visit
-applies given line left l i x s = apply line (reading given line left l) (uses given line left l) i x s (node (grammarIn given) i)
+applies given line left l i x s = apply line (reading given line left l) (reading given line (suc left) l) (uses given line left l) i x s (node (grammarIn given) i)
 
 abbrev pub opens : Given → List ℕ → ℕ → List Note → Visit
-opens given line left = visited (grammarIn given) line (wayIn given) (reading given line left)
+opens given line left = visited (grammarIn given) line (wayIn given) (reading given line left) (reading given line (suc left))
 
 -- The steps that the functions take from a spot, on live uses and a state: a visit of a node, and what follows it for each kind of node.
 abbrev pub Step : Type 0
@@ -44,9 +44,6 @@ choosing x y given line spot l s = after (here reading x given line spot l s) (o
 
 abbrev pub denying : ℕ → Step
 denying x given line spot l s = after (here reading x given line spot l s) (denied (posIn spot))
-
-abbrev pub repeating : ℕ → ℕ → Step
-repeating node x given line spot l s = after (here reading x given line spot l s) (repeated (reading given line (leftIn spot) l) node (posIn spot))
 
 abbrev pub rooting : ℕ → Step
 rooting rule given line spot l s = after (here reading (rootIn given rule) given line spot l s) (wrapped rule (posIn spot))
@@ -72,6 +69,11 @@ pub record Holds (w : List ℕ) (i r : ℕ) : Type 0 where
   pub failed : getD w (i * 3 + 2) 0 ≡ 0 → (endIn r ≡ FAILED) × (listIn r ≡ 0)
   pub matched : getD w (i * 3 + 2) 0 ≢ 0 → (endIn r ≡ getD w (i * 3 + 1) 0) × (listIn r ≡ getD w (i * 3 + 2) 0)
 
+-- The answer that is kept for a pair, by its word.
+pub record KeptAnswer (given : Given) (line w : List ℕ) (i x word r : ℕ) : Type 0 where
+  pub failed : word ≡ 1 → (endIn r ≡ FAILED) × (listIn r ≡ 0)
+  pub matched : 1 < word → (endIn r ≡ word - 2) × (listIn r ≡ getD w (placeIn given line i x + 1) 0)
+
 -- The answer with what the words say after it: the cells in use, the visits made.
 pub record Visited : Type 0 where
   pub end : ℕ
@@ -90,7 +92,7 @@ pub record Ready (given : Given) (line w : List ℕ) (left live made top node po
   pub pos-in : pos ≤ length line
   pub open-in : live + left ≤ 513
   pub made-in : made ≤ allowanceIn given
-  pub top-in : top ≤ made
+  pub top-in : top + turnsIn w ≤ made
   pub order : keepsIn given ≡ false → InOrder w live pos
 
 -- A refusal with its code, at a position, over the words w.
@@ -167,3 +169,32 @@ DoesVisit given line old new spot r m = EndsVisit given line old new spot r (m g
 -- A node that is applied here is no rule's but where answers are kept, and then none is kept for it.
 abbrev pub Unkept : (given : Given) (line w : List ℕ) (spot node : ℕ) → Type 0
 Unkept given line w spot node = (kindIn given node ≡ 2 → keepsIn given ≡ true) × (keepsIn given ≡ true → getD w (placeIn given line node (posIn spot)) 0 ≡ 0)
+
+-- From the answer of node i at x back over the turns that wait, the newest first: the answer is kept, and the turn's trees are joined before those of the one after it.
+unfoldable pub goingBack : ℕ → List Turn → ℕ → Answer → State → Run
+goingBack i [] x r s = done r s
+goingBack i (t ∷ ts) x r s = after (keep i x r s) (λ q u. after (joined (t .trees) q u) (goingBack i ts (t .pos)))
+
+-- A row may be gone back over from a spot, where node i answers r, until `before` turns wait.
+pub record Returns (given : Given) (line w : List ℕ) (spot i before r : ℕ) : Type 0 where
+  pub fit : Fit given line
+  pub words : Words given line w (liveIn spot) (topIn w)
+  pub few : liveIn spot ≤ 512
+  pub free : keepsIn given ≡ true
+  pub node-in : i < nodesIn given
+  pub pos-in : posIn spot ≤ length line
+  pub end-most : endIn r ≤ FAILED
+  pub end-is : endIn r ≢ STOPPED
+  pub end-in : endIn r < STOPPED → endIn r ≤ length line
+  pub list-in : listIn r ≤ topIn w
+  pub room : topIn w + turnsIn w ≤ allowanceIn given
+  pub turns : List Turn
+  pub waiting : Waiting given line w (topIn w) before (turnsIn w) turns
+
+-- It was gone back over: what came to r before has now come to r′, and the row's pairs are kept.
+pub record Returned (given : Given) (line old new : List ℕ) (spot i before r r′ : ℕ) : Type 0 where
+  pub cells : topIn new + before ≤ topIn old + turnsIn old
+  pub made : madeIn new ≡ madeIn old
+  pub says : (ts : List Turn) → Waiting given line old (topIn old) before (turnsIn old) ts → (w : List ℕ) (made top : ℕ) (m : List Note → State → Run)
+      → Came given line w (set old turnsWord before) (liveIn spot) made top (after-visit r old) m
+      → Came given line w new (liveIn spot) made top (after-visit r′ new) (λ l s. after (m l s) (goingBack i ts (posIn spot)))

@@ -1,5 +1,6 @@
--- What the working numbers stand for: live uses from word 0 on, three words each; how many cells are in use, how many visits are made and the furthest
--- position at which a range was visited; cells of trees; kept answers, two words a pair.
+-- What the working numbers stand for: live uses from word 0 on, three words each; how many turns wait, how many cells are in use, how many visits are made and the
+-- furthest position at which a range was visited; cells of trees; turns of rows that wait, two words each, from the far end of the cells down; kept answers, two words
+-- a pair.
 use Prim.Native.Nat.{ℕ, zero, suc, _+_, _-_, _*_, _/_, _<_, _≤_, max}
 use mathlib.Core.Path.{_≡_}
 use mathlib.Core.Logic.{_≢_, _⊎_}
@@ -41,7 +42,10 @@ abbrev pub Lives : List ℕ → ℕ → List Note → Type 0
 Lives w live [] = live ≡ 0
 Lives w live (n ∷ l) = (k : ℕ) × (live ≡ k + 1) × Entry w k n × (look l (n .number) (n .position) ≡ none) × Lives w k l
 
--- The words that hold how many cells are in use, how many visits are made, and the furthest position at which a range was visited.
+-- The words that hold how many turns wait, how many cells are in use, how many visits are made, and the furthest position at which a range was visited.
+abbrev pub turnsWord : ℕ
+turnsWord = 2041
+
 abbrev pub topWord : ℕ
 topWord = 2042
 
@@ -50,6 +54,9 @@ madeWord = 2043
 
 abbrev pub furthestWord : ℕ
 furthestWord = 2044
+
+abbrev pub turnsIn : List ℕ → ℕ
+turnsIn w = getD w turnsWord 0
 
 abbrev pub topIn : List ℕ → ℕ
 topIn w = getD w topWord 0
@@ -63,6 +70,44 @@ furthestIn w = getD w furthestWord 0
 -- The words after a range was visited at x.
 abbrev pub reachedIn : List ℕ → ℕ → List ℕ
 reachedIn w x = set w furthestWord (max (furthestIn w) x)
+
+-- Where turn number n stands: its position, and the list of its child's trees.
+abbrev pub turnAt : Given → ℕ → ℕ
+turnAt given n = baseIn given - 2 * n
+
+abbrev pub turnPos : Given → List ℕ → ℕ → ℕ
+turnPos given w n = getD w (turnAt given n) 0
+
+abbrev pub turnList : Given → List ℕ → ℕ → ℕ
+turnList given w n = getD w (turnAt given n + 1) 0
+
+-- A turn of a row that waits for the row's end: where it was made, and its child's trees.
+pub record Turn : Type 0 where
+  pub pos : ℕ
+  pub trees : Trees
+
+-- Turn number n is t.
+pub record IsTurn (given : Given) (line w : List ℕ) (top n : ℕ) (t : Turn) : Type 0 where
+  pub pos : turnPos given w n ≡ t .pos
+  pub inside : t .pos ≤ length line
+  pub below : turnList given w n ≤ top
+  pub trees : treesAt w (turnList given w n) ≡ t .trees
+
+-- The turns after number b up to number n, the newest first.
+abbrev pub Waiting : (given : Given) (line w : List ℕ) (top b n : ℕ) → List Turn → Type 0
+Waiting given line w top b n [] = n ≡ b
+Waiting given line w top b n (t ∷ ts) = (m : ℕ) × (n ≡ m + 1) × IsTurn given line w top n t × Waiting given line w top b m ts
+
+-- The words after turn n was written as the newest.
+abbrev pub withTurn : Given → List ℕ → (n pos list : ℕ) → List ℕ
+withTurn given w n pos list = set (set (set w (turnAt given n) pos) (turnAt given n + 1) list) turnsWord n
+
+-- There is room for turn n.
+pub record HasTurn (given : Given) (w : List ℕ) (n : ℕ) : Type 0 where
+  pub allowance : allowanceIn given ≤ mostAllowance
+  pub some : 0 < n
+  pub within : n ≤ allowanceIn given
+  pub room : baseIn given ≤ length w
 
 -- Where the answer of a pair is kept.
 abbrev pub placeIn : Given → List ℕ → ℕ → ℕ → ℕ
@@ -93,10 +138,12 @@ pub record Words (given : Given) (line w : List ℕ) (live top : ℕ) : Type 0 w
   pub kept-lists : keepsIn given ≡ true → (j : ℕ) → j < pairsIn given line → getD w (baseIn given + j * 2 + 1) 0 ≤ top
   pub kept-ends : keepsIn given ≡ true → (j : ℕ) → j < pairsIn given line → getD w (baseIn given + j * 2) 0 ≤ length line + 2
 
--- The words that a visit leaves as they are: those of the live uses, of the cells below top, and all past the room.
+-- The words that a visit leaves as they are: those of the live uses, of the cells below top, of the turns that wait with their number, and all past the room.
 pub record Same (given : Given) (line old new : List ℕ) (live top : ℕ) : Type 0 where
   pub uses : (i : ℕ) → i < live * 3 → getD new i 0 ≡ getD old i 0
   pub cells : (i : ℕ) → recordsFrom ≤ i → i < 2048 + 4 * top → getD new i 0 ≡ getD old i 0
+  pub turns : turnsIn new ≡ turnsIn old
+  pub waiting : (i : ℕ) → 2048 ≤ i → baseIn given ≤ i + 2 * turnsIn old → i < baseIn given → getD new i 0 ≡ getD old i 0
   pub past : (i : ℕ) → roomIn given line ≤ i → getD new i 0 ≡ getD old i 0
 
 -- The position of live use i.
@@ -158,6 +205,12 @@ Entered given old new spot code =
     ((allowanceIn given ≤ madeIn old) × (code ≡ EFFORT) × (new ≡ old))
     ⊎ ((madeIn old < allowanceIn given) × (leftIn spot ≡ 0) × (code ≡ DEEP) × (new ≡ old))
     ⊎ ((madeIn old < allowanceIn given) × (leftIn spot ≢ 0) × (code ≡ 0) × (new ≡ set old madeWord (madeIn old + 1)))
+
+-- The same of a visit that takes the place of the one before: it is never refused for depth.
+abbrev pub EnteredInPlace : (given : Given) (old new : List ℕ) (code : ℕ) → Type 0
+EnteredInPlace given old new code =
+    ((allowanceIn given ≤ madeIn old) × (code ≡ EFFORT) × (new ≡ old))
+    ⊎ ((madeIn old < allowanceIn given) × (code ≡ 0) × (new ≡ set old madeWord (madeIn old + 1)))
 
 -- Node i and position x are a pair for which an answer may be kept.
 abbrev pub HasPair : Given → List ℕ → (i x : ℕ) → Type 0

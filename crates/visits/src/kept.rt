@@ -3,6 +3,7 @@ use crate::ALLOWANCE;
 use crate::CELLS;
 use crate::FAILED;
 use crate::STOPPED;
+use crate::answer;
 ghost use mathlib.Core.Path.{_≡_};
 ghost use mathlib.Core.List.{[], _∷_};
 ghost use Prim.Native.Nat.{_+_, _<_, _≤_};
@@ -10,9 +11,10 @@ ghost use lib.ListN.{length, getD};
 ghost use lib.Seq.{sets};
 ghost use Rattle.visits.specs.Given.{lent};
 ghost use Rattle.visits.specs.Words.{FAILED, placeIn, HasPair, Roomy, Kept};
+ghost use Rattle.visits.specs.Says.{KeptAnswer};
 
 // Where the answer of a pair is kept.
-pub(crate) fn kept_at(given: &[u64; 4], line: &[u8], node: u32, pos: u32) -> usize
+fn kept_at(given: &[u64; 4], line: &[u8], node: u32, pos: u32) -> usize
     requires { ⌜ HasPair (lent [] (now given)) (now line) node pos ⌝ }
     ensures { λ r. ⌜ r ≡ placeIn (lent [] (now (given .entry))) (now (line .entry)) node pos ⌝ }
 {
@@ -32,6 +34,27 @@ pub(crate) fn kept_word(
 {
     let at = kept_at(given, line, node, pos);
     work[at]
+}
+
+// The answer that is kept for a pair, by its word, which is not 0.
+pub(crate) fn kept_answer(
+    given: &[u64; 4],
+    line: &[u8],
+    work: &mut &mut [u32],
+    node: u32,
+    pos: u32,
+    word: u32,
+) -> u64
+    requires room { ⌜ Roomy (lent [] (now given)) (now line) (now (now work)) node pos ⌝ }
+    requires some { ⌜ 0 < word ⌝ }
+    ensures { λ r. ⌜ KeptAnswer (lent [] (now (given .entry))) (now (line .entry)) (now (now (work .entry))) node pos word r × (now (work .exit) ≡ now (work .entry)) ⌝ }
+{
+    if word == 1 {
+        return answer(FAILED, 0);
+    }
+    let at = kept_at(given, line, node, pos);
+    let list = work[at + 1];
+    answer(word - 2, list)
 }
 
 // Keeps the answer of a finished pair; one that was refused has none.

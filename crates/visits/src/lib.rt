@@ -3,19 +3,21 @@
 // A visit is lent four numbers (given: see specs/Given), the table, the line and the working numbers, and is told where it stands in one number
 // (spot: the position, the live uses, the open visits left). What it answers is one number too: where it ends (or FAILED, or STOPPED by a
 // refusal) in the lower half, the list of its trees (or the refusal) in the upper.
-// specs/Words says what the working numbers stand for: the live uses (three words each from word 0 on, in the order of their positions), the number of cells in use and of visits
-// made and the furthest position at which a range was visited (words 2042 to 2044), the cells of trees, and the kept answers (two words for each
-// pair of a node and a position).
+// specs/Words says what the working numbers stand for: the live uses (three words each from word 0 on, in the order of their positions), the number of turns that wait, of cells in
+// use and of visits made and the furthest position at which a range was visited (words 2041 to 2044), the cells of trees, the turns of rows that wait for their row's end
+// (two words each, from the far end of the cells down), and the kept answers (two words for each pair of a node and a position).
 // The promise of each function (specs/Says): from words that stand for live uses and a state, the answer and the words it leaves say how the
 // reading of crate meaning ends from there: the answer with its trees, the state handed on, or the refusal with its place.
 // The visit calls itself for children and roots; the open visits left is the number that falls. It passes references to the slices, not the
 // slices, so that a call costs no copy of them; so each function says too that the working numbers it was lent are the ones that it gives back.
+// A repetition's next visit of itself takes the place of the one before: a row of them is a loop, and takes the stack of one visit.
 // What a visit is made of stands in files of its own: fields (what the table has for a node), spot (where a visit stands), ranges, live (the live uses),
-// trees, kept (the kept answers). Here are the answer in one number, the counters, and the functions that call one another.
+// trees, kept (the kept answers), rows (the turns that wait). Here are the answer in one number, the counters, and the functions that call one another.
 mod fields;
 mod kept;
 mod live;
 mod ranges;
+mod rows;
 mod spot;
 mod trees;
 
@@ -24,12 +26,16 @@ use crate::fields::b_of;
 use crate::fields::kind_of;
 use crate::fields::root_of;
 use crate::kept::keep;
-use crate::kept::kept_at;
+use crate::kept::kept_answer;
 use crate::kept::kept_word;
 use crate::live::held_by;
 use crate::live::live_use;
 use crate::live::put_use;
 use crate::ranges::visit_range;
+use crate::rows::enter_in_place;
+use crate::rows::go_back;
+use crate::rows::put_turn;
+use crate::rows::set_turns;
 use crate::spot::left_of;
 use crate::spot::live_of;
 use crate::spot::moved;
@@ -42,9 +48,9 @@ ghost use mathlib.Core.List.{[], _∷_};
 ghost use Prim.Native.Nat.{_<_, _≤_};
 ghost use lib.ListN.{length};
 ghost use lib.Seq.{sets};
-ghost use Rattle.visits.specs.Given.{lent, mostAllowance, allowanceIn, nodesIn, rulesIn, keepsIn, growsIn, HasRule, IsPair, IsOpen, beginning, liveIn, posIn};
-ghost use Rattle.visits.specs.Words.{keyOf, topWord, madeIn, furthestIn, NotLive, Entered};
-ghost use Rattle.visits.specs.Says.{reading, uses, grows, applies, opens, here, sequencing, choosing, denying, repeating, rooting, endIn, listIn, StartsHere, StartsUse, Unkept, Does, DoesVisit};
+ghost use Rattle.visits.specs.Given.{lent, mostAllowance, allowanceIn, nodesIn, rulesIn, keepsIn, growsIn, kindIn, HasRule, IsPair, IsOpen, beginning, liveIn, posIn};
+ghost use Rattle.visits.specs.Words.{keyOf, turnsWord, madeIn, furthestIn, NotLive, Entered};
+ghost use Rattle.visits.specs.Says.{reading, uses, grows, applies, opens, here, sequencing, choosing, denying, rooting, endIn, listIn, StartsHere, StartsUse, Unkept, Does, DoesVisit};
 
 // The ends that are no position.
 pub const FAILED: u32 = 65535;
@@ -68,8 +74,10 @@ const FIRST_NODE: usize = 2;
 
 const GROWING: usize = 3;
 
-// The working numbers that hold how many cells are in use, how many visits are made and the furthest position at which a range was visited, and the
-// first of the cells.
+// The working numbers that hold how many turns wait, how many cells are in use, how many visits are made and the furthest position at which a range was
+// visited, and the first of the cells.
+const TURNS: usize = 2041;
+
 const TOP: usize = 2042;
 
 const MADE: usize = 2043;
@@ -111,11 +119,12 @@ pub fn list_of(answer: u64) -> u32
     (answer / UPPER) as u32
 }
 
-// Makes ready for the first visit: no cell is in use, no visit is made, no range was visited.
+// Makes ready for the first visit: no turn waits, no cell is in use, no visit is made, no range was visited.
 pub fn no_visits(work: &mut [u32])
     requires { ⌜ 2048 ≤ length (now work) ⌝ }
-    ensures { λ _. ⌜ now (work .exit) ≡ sets (now (work .entry)) topWord (0 ∷ 0 ∷ 0 ∷ []) ⌝ }
+    ensures { λ _. ⌜ now (work .exit) ≡ sets (now (work .entry)) turnsWord (0 ∷ 0 ∷ 0 ∷ 0 ∷ []) ⌝ }
 {
+    work[TURNS] = 0;
     work[TOP] = 0;
     work[MADE] = 0;
     work[FURTHEST] = 0;
@@ -227,7 +236,125 @@ fn visit_not(
     answer(FAILED, 0)
 }
 
-// A repetition of the child x, which is node `node`: its next visit is one of itself.
+// A repetition where nothing is kept: its child, turn by turn, and the trees are joined as they come.
+fn visit_row(
+    given: &[u64; 4],
+    table: &&[u8],
+    line: &&[u8],
+    work: &mut &mut [u32],
+    spot: u64,
+    node: u32,
+) -> u64
+    requires ready { ⌜ StartsHere (lent (now (now table)) (now given)) (now (now line)) (now (now work)) spot node ⌝ }
+    requires open { ⌜ IsOpen spot × (kindIn (lent (now (now table)) (now given)) node ≡ 6) ⌝ }
+    requires plain { ⌜ keepsIn (lent (now (now table)) (now given)) ≡ false ⌝ }
+    ensures says { λ r. ⌜ Does (lent (now (now (table .entry))) (now (given .entry))) (now (now (line .entry))) (now (now (work .entry))) (now (now (work .exit))) spot r (here applies node) ⌝ }
+    ensures lent { λ _. ⌜ (now (work .exit)) .name ≡ (now (work .entry)) .name ⌝ }
+{
+    let x = a_of(given, *table, node);
+    let mut at = pos_of(spot);
+    let mut list = 0;
+    let last = loop {
+        let turn = visit(given, table, line, work, moved(spot, at), x);
+        let end = end_of(turn);
+        if end == STOPPED {
+            break turn;
+        }
+        if end == FAILED {
+            break answer(at, list);
+        }
+        if end == at {
+            break answer(at, list);
+        }
+        let both = joined(*work, end, list, list_of(turn));
+        let refused = enter_in_place(given, work);
+        if refused != 0 {
+            break answer(STOPPED, refused * PLACES + end);
+        }
+        list = list_of(both);
+        at = end;
+    };
+    last
+}
+
+// A repetition where answers are kept: each turn waits until the row ends, and then the row is gone back over, to keep the answer of each pair.
+fn keep_row(
+    given: &[u64; 4],
+    table: &&[u8],
+    line: &&[u8],
+    work: &mut &mut [u32],
+    spot: u64,
+    node: u32,
+) -> u64
+    requires ready { ⌜ StartsHere (lent (now (now table)) (now given)) (now (now line)) (now (now work)) spot node ⌝ }
+    requires open { ⌜ IsOpen spot × (kindIn (lent (now (now table)) (now given)) node ≡ 6) ⌝ }
+    requires free { ⌜ keepsIn (lent (now (now table)) (now given)) ≡ true ⌝ }
+    ensures says { λ r. ⌜ Does (lent (now (now (table .entry))) (now (given .entry))) (now (now (line .entry))) (now (now (work .entry))) (now (now (work .exit))) spot r (here applies node) ⌝ }
+    ensures lent { λ _. ⌜ (now (work .exit)) .name ≡ (now (work .entry)) .name ⌝ }
+{
+    let x = a_of(given, *table, node);
+    let before = work[TURNS];
+    let mut turns = before;
+    let mut at = pos_of(spot);
+    let last = loop {
+        let a = visit(given, table, line, work, moved(spot, at), x);
+        let end = end_of(a);
+        if end == STOPPED {
+            set_turns(*work, before);
+            break a;
+        }
+        if end == FAILED {
+            break go_back(
+                given,
+                table,
+                line,
+                work,
+                moved(spot, at),
+                node,
+                before,
+                answer(at, 0),
+            );
+        }
+        if end == at {
+            break go_back(
+                given,
+                table,
+                line,
+                work,
+                moved(spot, at),
+                node,
+                before,
+                answer(at, 0),
+            );
+        }
+        let refused = enter_in_place(given, work);
+        if refused != 0 {
+            set_turns(*work, before);
+            break answer(STOPPED, refused * PLACES + end);
+        }
+        let word = kept_word(given, *line, work, node, end);
+        if word != 0 {
+            let rest = kept_answer(given, *line, work, node, end, word);
+            let both = joined(*work, end_of(rest), list_of(a), list_of(rest));
+            break go_back(
+                given,
+                table,
+                line,
+                work,
+                moved(spot, at),
+                node,
+                before,
+                both,
+            );
+        }
+        turns += 1;
+        put_turn(given, *work, turns, at, list_of(a));
+        at = end;
+    };
+    last
+}
+
+// A repetition: its child, then itself.
 fn visit_repetition(
     given: &[u64; 4],
     table: &&[u8],
@@ -235,31 +362,16 @@ fn visit_repetition(
     work: &mut &mut [u32],
     spot: u64,
     node: u32,
-    x: u32,
 ) -> u64
-    requires ready { ⌜ StartsHere (lent (now (now table)) (now given)) (now (now line)) (now (now work)) spot x ⌝ }
-    requires open { ⌜ IsOpen spot × (node < nodesIn (lent (now (now table)) (now given))) ⌝ }
-    ensures says { λ r. ⌜ Does (lent (now (now (table .entry))) (now (given .entry))) (now (now (line .entry))) (now (now (work .entry))) (now (now (work .exit))) spot r (repeating node x) ⌝ }
+    requires ready { ⌜ StartsHere (lent (now (now table)) (now given)) (now (now line)) (now (now work)) spot node ⌝ }
+    requires open { ⌜ IsOpen spot × (kindIn (lent (now (now table)) (now given)) node ≡ 6) ⌝ }
+    ensures says { λ r. ⌜ Does (lent (now (now (table .entry))) (now (given .entry))) (now (now (line .entry))) (now (now (work .entry))) (now (now (work .exit))) spot r (here applies node) ⌝ }
     ensures lent { λ _. ⌜ (now (work .exit)) .name ≡ (now (work .entry)) .name ⌝ }
 {
-    let pos = pos_of(spot);
-    let a = visit(given, table, line, work, spot, x);
-    let end = end_of(a);
-    if end == STOPPED {
-        return a;
+    if given[KEEPS] == 0 {
+        return visit_row(given, table, line, work, spot, node);
     }
-    if end == FAILED {
-        return answer(pos, 0);
-    }
-    if end == pos {
-        return answer(pos, 0);
-    }
-    let b = visit(given, table, line, work, moved(spot, end), node);
-    let last = end_of(b);
-    if STOPPED <= last {
-        return b;
-    }
-    joined(*work, last, list_of(a), list_of(b))
+    keep_row(given, table, line, work, spot, node)
 }
 
 // A use of a rule that doesn't become live: its root is visited once.
@@ -422,15 +534,7 @@ fn apply(
         3 => visit_pair(given, table, line, work, spot, node),
         4 => visit_pair(given, table, line, work, spot, node),
         5 => visit_not(given, table, line, work, spot, a_of(given, *table, node)),
-        6 => visit_repetition(
-            given,
-            table,
-            line,
-            work,
-            spot,
-            node,
-            a_of(given, *table, node),
-        ),
+        6 => visit_repetition(given, table, line, work, spot, node),
         _ => answer(pos_of(spot), 0),
     };
     if given[KEEPS] == 0 {
@@ -471,7 +575,7 @@ fn visit_open(
     }
 }
 
-// A visit: the answer that is kept, or else the node is applied. It keeps no place on the stack, since it ends in a jump to what it calls.
+// A visit: the answer that is kept, or else the node is applied. It keeps no place on the stack, since it ends in a jump to what it calls; a range needs no call.
 fn visit(
     given: &[u64; 4],
     table: &&[u8],
@@ -493,13 +597,13 @@ fn visit(
     }
     let pos = pos_of(spot);
     let word = kept_word(given, *line, work, node, pos);
-    if word == 1 {
-        return answer(FAILED, 0);
+    if word != 0 {
+        return kept_answer(given, *line, work, node, pos, word);
     }
-    if 1 < word {
-        let place = kept_at(given, *line, node, pos);
-        let list = work[place + 1];
-        return answer(word - 2, list);
+    if kind_of(given, *table, node) == 1 {
+        let done = visit_range(given, *table, *line, work, pos, node);
+        keep(given, *line, *work, node, pos, end_of(done), list_of(done));
+        return done;
     }
     apply(given, table, line, work, spot - OPEN, node)
 }

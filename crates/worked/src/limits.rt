@@ -50,22 +50,21 @@ pub(crate) fn allowance() {
     say::large(b"A on 7+2, allowance 100000", &table, a, b"7+2", 100_000);
 }
 
-// 500 nots over 'a'*. On so many bytes of 'a' the most visits are open when the range fails at the line's end: the nots,
-// one more repetition than bytes, and the range. That makes 502 and the bytes.
-fn nots_on(name: &[u8], count: usize, allowance: u64) {
+// Of S <- T, T <- 'a' T / (empty) on 169 bytes the most visits are open when the range fails at the line's end: 511, and one
+// more for each empty node that stands before the T of S. Before that range 679 visits are made, and two for each of these.
+fn right_recursive(name: &[u8], node: usize, allowance: u64) {
     let mut table = [0u8; build::SPACE];
-    let length = sheets::nots(&mut table);
-    let line = [b'a'; 11];
-    let line = page::front(&line, count);
-    say::prefix(name, &table, length, line, allowance);
+    let length = sheets::right_recursive(&mut table, node);
+    let line = [b'a'; 169];
+    say::prefix(name, &table, length, &line, allowance);
 }
 
 pub(crate) fn open_visits() {
-    nots_on(b"511 open visits", 9, 550);
-    nots_on(b"512 open visits", 10, 550);
-    nots_on(b"513 open visits", 11, 550);
+    right_recursive(b"511 open visits", 0, 2_500);
+    right_recursive(b"512 open visits", 2, 2_500);
+    right_recursive(b"513 open visits", 3, 2_500);
     // Where the allowance is spent as well, that is named.
-    nots_on(b"513 open visits, allowance 523", 11, 523);
+    right_recursive(b"513 open visits, allowance 683", 3, 683);
 }
 
 // Too long a line, no allowance and no working numbers: the first of these is named.

@@ -217,17 +217,26 @@ pub(crate) fn letters(table: &mut Table) -> usize {
     length
 }
 
-// 500 nots, one in the other, over 'a'*.
-pub(crate) fn nots(table: &mut Table) -> usize {
-    let length = head(table, 502, 1);
-    root(table, 0, 501);
-    range(table, 0, 97, 97);
-    rep(table, 1, 0);
-    let mut i = 2;
-    while i < 502 {
-        not(table, i, i - 1);
-        i += 1;
-    }
+// S <- [0-9]*
+pub(crate) fn digits(table: &mut Table) -> usize {
+    let length = letters(table);
+    range(table, 0, 48, 57);
+    length
+}
+
+// T <- 'a' T / (empty); S is node 0, which is T, or node 2 or 3, T behind one empty node or two
+pub(crate) fn right_recursive(table: &mut Table, node: usize) -> usize {
+    let length = head(table, 8, 2);
+    root(table, 0, node);
+    root(table, 1, 7);
+    rule(table, 0, 1);
+    empty(table, 1);
+    seq(table, 2, 1, 0);
+    seq(table, 3, 1, 2);
+    range(table, 4, 97, 97);
+    seq(table, 5, 4, 0);
+    empty(table, 6);
+    choice(table, 7, 5, 6);
     length
 }
 
@@ -435,5 +444,92 @@ pub(crate) fn looking_on(table: &mut Table) -> usize {
     rule(table, 5, 0);
     seq(table, 6, 0, 5);
     seq(table, 7, 4, 6);
+    length
+}
+
+// S <- '(' S / R; R <- T; T <- U; U <- [0-9]*
+pub(crate) fn three_in_brackets(table: &mut Table) -> usize {
+    let length = head(table, 9, 4);
+    root(table, 0, 6);
+    root(table, 1, 7);
+    root(table, 2, 8);
+    root(table, 3, 4);
+    range(table, 0, 40, 40);
+    rule(table, 1, 0);
+    seq(table, 2, 0, 1);
+    range(table, 3, 48, 57);
+    rep(table, 4, 3);
+    rule(table, 5, 1);
+    choice(table, 6, 2, 5);
+    rule(table, 7, 2);
+    rule(table, 8, 3);
+    length
+}
+
+// The same with T <- [0-9]*
+pub(crate) fn two_in_brackets(table: &mut Table) -> usize {
+    let length = three_in_brackets(table);
+    root(table, 2, 4);
+    length
+}
+
+// The same with R <- [0-9]*
+pub(crate) fn one_in_brackets(table: &mut Table) -> usize {
+    let length = three_in_brackets(table);
+    root(table, 1, 4);
+    length
+}
+
+// S <- R 'x' / 'a' R 'y' / R; R <- the letters from 'a' to the last one, repeated
+pub(crate) fn tried_thrice(table: &mut Table, last: usize) -> usize {
+    let length = head(table, 11, 2);
+    root(table, 0, 8);
+    root(table, 1, 10);
+    rule(table, 0, 1);
+    range(table, 1, 120, 120);
+    seq(table, 2, 0, 1);
+    range(table, 3, 97, 97);
+    range(table, 4, 121, 121);
+    seq(table, 5, 0, 4);
+    seq(table, 6, 3, 5);
+    choice(table, 7, 6, 0);
+    choice(table, 8, 2, 7);
+    range(table, 9, 97, last);
+    rep(table, 10, 9);
+    length
+}
+
+// S <- ('a'* 'b')*
+pub(crate) fn rows_in_a_row(table: &mut Table) -> usize {
+    let length = head(table, 5, 1);
+    root(table, 0, 4);
+    range(table, 0, 97, 97);
+    rep(table, 1, 0);
+    range(table, 2, 98, 98);
+    seq(table, 3, 1, 2);
+    rep(table, 4, 3);
+    length
+}
+
+// S <- R*; R is the first of nine rules, each the next one, the last 'a'
+pub(crate) fn nine_names(table: &mut Table) -> usize {
+    let length = head(table, 11, 10);
+    root(table, 0, 10);
+    rep(table, 10, 1);
+    let mut q = 1;
+    while q < 10 {
+        root(table, q, q + 1);
+        rule(table, q, q);
+        q += 1;
+    }
+    root(table, 9, 0);
+    range(table, 0, 97, 97);
+    length
+}
+
+// The same with eight
+pub(crate) fn eight_names(table: &mut Table) -> usize {
+    let length = nine_names(table);
+    root(table, 8, 0);
     length
 }

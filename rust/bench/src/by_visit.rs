@@ -16,8 +16,8 @@ pub fn lines_by_the_visit() -> Vec<(Sheet, u64)> {
     lines.map(with_visits).collect()
 }
 
-/// Of the sum sheet three lengths: what a visit costs should not grow with the
-/// line.
+/// Of the sum sheet, of a number and of digits on a free sheet three lengths each:
+/// what a visit costs should not grow with the line, or with a row of digits.
 fn long() -> Vec<Sheet> {
     let ones = |count: usize, between: &str| vec!["1"; count].join(between);
     let whole = |name, sheet, line| one(name, sheet, line, MOST_ALLOWANCE);
@@ -26,6 +26,11 @@ fn long() -> Vec<Sheet> {
         whole("sum", sum(), ones(8, "+")),
         whole("sum", sum(), ones(32, "+")),
         whole("sum", sum(), ones(128, "+")),
+        whole("sum, a number", sum(), ones(15, "")),
+        whole("sum, a number", sum(), ones(63, "")),
+        whole("sum, a number", sum(), ones(255, "")),
+        whole("decimal comma, free", decimal_comma(), ones(15, "")),
+        whole("decimal comma, free", decimal_comma(), ones(63, "")),
         whole("decimal comma, free", decimal_comma(), ones(255, "")),
     ]
 }

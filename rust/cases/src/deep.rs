@@ -67,16 +67,13 @@ pub fn around_a_refusal(maker: &mut Maker, whole: bool, allowance: u64) {
     }
 }
 
-/// Sheets of up to 512 nodes in one chain: of nots down to a range, or of
-/// pads over a repetition, which opens one visit more with each byte.
+/// Sheets of up to 512 nodes in one chain of nots: down to a range, or to a row,
+/// whose turns take the place of one another.
 fn chains_of_nodes(maker: &mut Maker) {
-    for nodes in [510, 511, 512] {
+    for nots in [509, 510, 511] {
         let mut sheet = Sheet::new();
-        let mut top = sheet.byte(b'a');
-        while sheet.nodes.len() < nodes {
-            top = sheet.not(top);
-        }
-        sheet.root(top);
+        let a = sheet.byte(b'a');
+        below_nots(&mut sheet, a, nots);
         maker.table(&sheet.bytes());
         for line in [b"".as_slice(), b"a"] {
             maker.line(line);
@@ -85,19 +82,25 @@ fn chains_of_nodes(maker: &mut Maker) {
             }
         }
     }
-    let mut sheet = Sheet::new();
-    let a = sheet.byte(b'a');
-    let all = sheet.repetition(a);
-    let top = padded(&mut sheet, all, 500);
-    sheet.root(top);
-    for sheet in [sheet.clone(), not_free(sheet)] {
+    for nots in [504, 506, 508, 509, 510] {
+        let mut sheet = Sheet::new();
+        let a = sheet.byte(b'a');
+        let all = sheet.repetition(a);
+        below_nots(&mut sheet, all, nots);
+        let sheet = if nots < 508 { not_free(sheet) } else { sheet };
         maker.table(&sheet.bytes());
-        for length in 8..=14 {
+        for length in [0, 1, 2, 8, 40] {
             maker.line(&vec![b'a'; length]);
             maker.read_with_enough(true, 1_100, 40);
-            maker.read_with_enough(false, 600, 40);
+            maker.read_with_enough(false, 530, 40);
         }
     }
+}
+
+/// Rule 0 is the node below so many nots: each opens one visit.
+fn below_nots(sheet: &mut Sheet, node: u16, nots: usize) {
+    let top = (0..nots).fold(node, |inner, _| sheet.not(inner));
+    sheet.root(top);
 }
 
 /// A long chain of rules at every position, none of which is ever done. Where

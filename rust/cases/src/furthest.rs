@@ -85,20 +85,24 @@ fn too_deep_before(maker: &mut Maker) {
     }
 }
 
-/// S <- !('a'* 'b') pads 'a'*, or without the not: each byte opens one visit.
+/// S <- !('a'* 'b') pads T, or without the not; T <- 'a' T / empty: each byte opens
+/// three visits.
 fn looking_then_deep(looks: bool) -> Sheet {
     let mut sheet = Sheet::new();
-    let (a, b) = (sheet.byte(b'a'), sheet.byte(b'b'));
-    let (ahead, all) = (sheet.repetition(a), sheet.repetition(a));
+    let (a, b, t) = (sheet.byte(b'a'), sheet.byte(b'b'), sheet.rule(1));
+    let ahead = sheet.repetition(a);
     let seen = sheet.sequence(ahead, b);
     let not = sheet.not(seen);
-    let deep = padded(&mut sheet, all, 500);
+    let deep = padded(&mut sheet, t, 480);
     let root = if looks {
         sheet.sequence(not, deep)
     } else {
         deep
     };
+    let on = sheet.sequence(a, t);
+    let t_root = sheet.optional(on);
     sheet.root(root);
+    sheet.root(t_root);
     sheet
 }
 
@@ -428,8 +432,8 @@ mod tests {
         let refused = read(&looking_on(12), &[b'a'; 255], 10_000);
         assert_eq!(refused.code, DEEP);
         assert!(refused.place < refused.furthest && refused.furthest < 255);
-        // At k the range opens the visit number 502 + k, and one more with the look.
-        for (looks, furthest) in [(true, 14), (false, 10)] {
+        // At k the range opens the visit number 484 + 3k, and one more with the look.
+        for (looks, furthest) in [(true, 14), (false, 9)] {
             let refused = read(&looking_then_deep(looks), &[b'a'; 14], 1_500);
             assert_eq!((refused.code, refused.furthest), (DEEP, furthest));
             assert!(refused.place < 14);

@@ -2,7 +2,7 @@
 //! are not: only the former become live and grow. Each is read at the edges of
 //! the allowance, and at those of a reader by which every rule becomes live.
 
-use independent::Live;
+use independent::Ways;
 use sheets::{sheet_a, sum, Sheet};
 
 use crate::deep::padded;
@@ -41,23 +41,9 @@ fn add_sheet(maker: &mut Maker, sheet: &Sheet, lines: &[&str]) {
     }
 }
 
-/// The allowances at which the reading ends, and would end if every rule became
-/// live, with one more and one less.
+/// Beside a reader by which every rule becomes live.
 fn both_edges(maker: &mut Maker, whole: bool) {
-    let most = maker.affordable(6_000);
-    let mut allowances = Vec::new();
-    for live in [Live::LeftRecursive, Live::Every] {
-        let visits = maker.trial_with(live, whole, most).visits;
-        allowances.extend([visits.saturating_sub(1), visits, visits + 1]);
-    }
-    allowances.sort_unstable();
-    allowances.dedup();
-    for allowance in allowances {
-        if (1..=most).contains(&allowance) {
-            maker.read_with_enough(whole, allowance, 200);
-        }
-    }
-    maker.read_with_enough(!whole, most, 200);
+    maker.both_edges(Ways::EVERY_LIVE, whole);
 }
 
 type Lines = &'static [&'static str];
@@ -285,17 +271,20 @@ fn too_deep(maker: &mut Maker) {
     }
 }
 
-/// S <- N pads 'a'* / S; N <- 'b' through so many rules. Each byte opens a visit.
+/// S <- N pads T / S; T <- 'a' T / empty; N <- 'b' through so many rules. Three visits
+/// deeper with each 'a': behind nine the range is the 512th that is open.
 fn named_then_deep(rules: u16) -> Sheet {
     let mut sheet = Sheet::new();
-    let (s, n) = (sheet.rule(0), sheet.rule(1));
+    let (s, n, t) = (sheet.rule(0), sheet.rule(1), sheet.rule(rules + 1));
     let (a, b) = (sheet.byte(b'a'), sheet.byte(b'b'));
-    let all = sheet.repetition(a);
-    let deep = padded(&mut sheet, all, 498);
+    let deep = padded(&mut sheet, t, 479);
     let first = sheet.sequence(n, deep);
     let root = sheet.choice(first, s);
     sheet.root(root);
     name_through(&mut sheet, rules, b);
+    let on = sheet.sequence(a, t);
+    let t_root = sheet.optional(on);
+    sheet.root(t_root);
     sheet
 }
 
@@ -384,6 +373,7 @@ mod tests {
         );
         let line = [b'b'; 255];
         assert!(deep(&named_and_again(2), &line) > deep(&named_and_again(1), &line));
-        assert_eq!(read(&named_then_deep(1), b"baaaaaaaa", 6_000).code, READ);
+        assert_eq!(read(&named_then_deep(1), b"baaaaaaaaa", 6_000).code, READ);
+        assert_eq!(read(&named_then_deep(1), b"baaaaaaaaaa", 6_000).code, DEEP);
     }
 }

@@ -17,14 +17,17 @@ pub mod program;
 mod random;
 mod reach;
 mod records;
+mod rows;
 mod soup;
+mod tally;
 mod textbook;
 mod worked;
 
 pub use command::{decode, Command, Lending};
 pub use desk::{run, Desk, Read, Readers};
-pub use maker::{Cases, Furthest, Growth, Tables, Tally};
+pub use maker::Cases;
 pub use random::Random;
+pub use tally::{Furthest, Growth, Tables, Tally, Turns};
 pub use textbook::dear_sums;
 pub use worked::text as worked_text;
 
@@ -34,7 +37,7 @@ use maker::Maker;
 pub const SEED: u64 = 20_260_401;
 
 /// So many answered commands are made.
-pub const COMMANDS: u64 = 24_000;
+pub const COMMANDS: u64 = 26_000;
 
 /// All cases of a seed.
 pub fn make(seed: u64) -> Cases {
@@ -46,6 +49,7 @@ pub fn make(seed: u64) -> Cases {
     nothing::add(&mut maker);
     furthest::add(&mut maker);
     growing::add(&mut maker);
+    rows::add(&mut maker);
     formed::add(&mut maker);
     // Random sheets fill what is left.
     soup::add(&mut maker, COMMANDS);
@@ -77,6 +81,7 @@ mod tests {
             deep::add,
             furthest::add,
             growing::add,
+            rows::add,
             formed::add,
         ] {
             assert_eq!(loops(add), 0);

@@ -3,7 +3,7 @@
 
 use std::process::ExitCode;
 
-use cases::{make, Furthest, Growth, Tally, SEED};
+use cases::{make, Furthest, Growth, Tally, Turns, SEED};
 
 /// Fewer than this of any code are too few to compare by.
 const LEAST_OF_A_CODE: u64 = 50;
@@ -13,7 +13,7 @@ const LEAST_COMMANDS: u64 = 20_000;
 /// and those close to it.
 const LEAST_TABLES: u64 = 200;
 /// Of each sort of readings by how far ranges were asked, and by what they would
-/// be if every rule became live.
+/// be if every rule became live, and if each turn opened one visit more.
 const LEAST_READINGS: u64 = 100;
 
 fn main() -> ExitCode {
@@ -67,6 +67,9 @@ fn print_counts(tally: &Tally) {
     for (sort, count) in sorts_by_growth(&tally.growth) {
         eprintln!("readings, not free, {sort} {count}");
     }
+    for (sort, count) in sorts_by_turns(&tally.turns) {
+        eprintln!("readings, DEEP by turns, {sort} {count}");
+    }
     eprintln!("commands {}", tally.commands);
 }
 
@@ -95,6 +98,17 @@ fn sorts_by_growth(growth: &Growth) -> [(&'static str, u64); 6] {
     ]
 }
 
+/// Beside a reader by which each turn opens one visit more, where that one is DEEP.
+fn sorts_by_turns(turns: &Turns) -> [(&'static str, u64); 5] {
+    [
+        ("no more, free", turns.deep_no_more_free),
+        ("no more, not free", turns.deep_no_more_not_free),
+        ("now EFFORT", turns.effort_instead),
+        ("now later", turns.deep_later),
+        ("now as well", turns.deep_as_well),
+    ]
+}
+
 fn enough(tally: &Tally) -> bool {
     let tables = &tally.tables;
     let sorts = [
@@ -106,6 +120,7 @@ fn enough(tally: &Tally) -> bool {
     ];
     let mut readings = sorts_of_readings(&tally.furthest).to_vec();
     readings.extend(sorts_by_growth(&tally.growth));
+    readings.extend(sorts_by_turns(&tally.turns));
     tally.commands >= LEAST_COMMANDS
         && tally.codes.iter().all(|&count| count >= LEAST_OF_A_CODE)
         && sorts.iter().all(|&count| count >= LEAST_TABLES)

@@ -1,13 +1,13 @@
 //! Making commands one by one, with their answers and a tally.
 
-use std::cmp::Ordering;
 use std::collections::HashSet;
 
-use independent::{Live, DEEP, EFFORT, FAIL, LOOP, READ, REST, ROOM};
+use independent::{Ways, EFFORT, READ, ROOM};
 
 use crate::command::{Command, Lending};
 use crate::desk::{print, Desk, Readers};
 use crate::random::Random;
+use crate::tally::Tally;
 
 /// The most a command can lend.
 const MOST_WORK: u64 = 65_536;
@@ -23,165 +23,6 @@ pub struct Cases {
     pub tally: Tally,
 }
 
-/// How often each thing was answered.
-#[derive(Clone, Default)]
-pub struct Tally {
-    /// Commands that print a line.
-    pub commands: u64,
-    /// Times each code was given by check, report or reading.
-    pub codes: [u64; independent::CODES],
-    /// Times a stored reading was not and was well formed.
-    pub well_formed: [u64; 2],
-    /// Tables that were reported on or read by, each counted once.
-    pub tables: Tables,
-    /// Readings by how far ranges were asked.
-    pub furthest: Furthest,
-    /// Readings by what they would be if every rule became live.
-    pub growth: Growth,
-}
-
-/// How many readings there are of each sort, by tables that aren't free. The
-/// other answer is that of a reader by which every rule becomes live.
-#[derive(Clone, Default)]
-pub struct Growth {
-    /// Neither is refused for effort or depth, and both make as many visits.
-    pub as_many: u64,
-    /// The same, and the other makes more.
-    pub fewer: u64,
-    /// The other gives EFFORT, and this one neither EFFORT nor DEEP.
-    pub effort_no_more: u64,
-    /// The other gives EFFORT, and this one DEEP.
-    pub deep_instead: u64,
-    /// Both give EFFORT, at another place or with another furthest range.
-    pub effort_elsewhere: u64,
-    /// Both give DEEP, this one after fewer visits.
-    pub deep_sooner: u64,
-}
-
-impl Growth {
-    fn count(&mut self, numbers: &[u64], other: [u64; 6]) {
-        let (code, place, visits, furthest) = (numbers[0], numbers[1], numbers[3], numbers[5]);
-        let [other_code, other_place, _, other_visits, _, other_furthest] = other;
-        match (code, other_code) {
-            (EFFORT, EFFORT) => {
-                let elsewhere = (place, furthest) != (other_place, other_furthest);
-                self.effort_elsewhere += u64::from(elsewhere);
-            }
-            (DEEP, EFFORT) => self.deep_instead += 1,
-            (DEEP, _) => self.deep_sooner += u64::from(visits < other_visits),
-            (_, EFFORT) => self.effort_no_more += 1,
-            _ if visits < other_visits => self.fewer += 1,
-            _ => self.as_many += 1,
-        }
-    }
-}
-
-/// How many readings there are of each sort.
-#[derive(Clone, Default)]
-pub struct Furthest {
-    /// READ or REST: a range was visited beyond the match.
-    pub above_matched: u64,
-    /// READ or REST: the furthest one just where the match ends.
-    pub at_matched: u64,
-    /// READ or REST: the furthest one before that.
-    pub below_matched: u64,
-    /// READ, and none was visited behind 0.
-    pub read_at_0: u64,
-    /// FAIL, and one was visited behind 0.
-    pub fail_above_0: u64,
-    /// EFFORT, and the same.
-    pub effort_above_0: u64,
-    /// DEEP, and the same.
-    pub deep_above_0: u64,
-    /// The line has bytes, and one was visited at its end.
-    pub at_end: u64,
-}
-
-impl Furthest {
-    fn count(&mut self, numbers: &[u64], line_length: usize) {
-        let (code, matched, furthest) = (numbers[0], numbers[2], numbers[5]);
-        let above_0 = u64::from(furthest > 0);
-        match code {
-            READ | REST => *self.beside(matched, furthest) += 1,
-            FAIL => self.fail_above_0 += above_0,
-            EFFORT => self.effort_above_0 += above_0,
-            DEEP => self.deep_above_0 += above_0,
-            _ => {}
-        }
-        self.read_at_0 += u64::from(code == READ && furthest == 0);
-        self.at_end += u64::from(furthest > 0 && furthest == line_length as u64);
-    }
-
-    /// The count of the readings that match so far and ask so far.
-    fn beside(&mut self, matched: u64, furthest: u64) -> &mut u64 {
-        match furthest.cmp(&matched) {
-            Ordering::Greater => &mut self.above_matched,
-            Ordering::Equal => &mut self.at_matched,
-            Ordering::Less => &mut self.below_matched,
-        }
-    }
-}
-
-/// How many tables there are of each sort. All are accepted but those refused
-/// with LOOP.
-#[derive(Clone, Default)]
-pub struct Tables {
-    /// Refused for a repetition of nothing.
-    pub repeating_nothing: u64,
-    /// A repetition's child is no range, and another node may be empty too.
-    pub close_to_it: u64,
-    /// No rule is left-recursive.
-    pub without: u64,
-    /// Free, though a rule is left-recursive: rule 0 does not reach it.
-    pub unreached: u64,
-    /// Not free, though rule 0 is not left-recursive: it reaches one that is.
-    pub reached: u64,
-    /// Rule 0 is left-recursive.
-    pub itself: u64,
-    /// Of the last two those with a rule that is not left-recursive.
-    pub mixed: u64,
-}
-
-impl Tables {
-    fn count(&mut self, table: &[u8]) {
-        let report = independent::report(table);
-        match report.code {
-            LOOP => self.repeating_nothing += 1,
-            READ => {
-                *self.of(report) += 1;
-                let some_only = report.how_many < u64::from(table[5]) * 256 + u64::from(table[6]);
-                self.mixed += u64::from(!report.free && some_only);
-                self.close_to_it += u64::from(is_close_to_repeating_nothing(table));
-            }
-            _ => {}
-        }
-    }
-
-    /// The count of the tables with such a report.
-    fn of(&mut self, report: independent::Report) -> &mut u64 {
-        if report.how_many == 0 {
-            &mut self.without
-        } else if report.free {
-            &mut self.unreached
-        } else if report.lowest > 0 {
-            &mut self.reached
-        } else {
-            &mut self.itself
-        }
-    }
-}
-
-/// Whether it has to be worked out that no repetition is one of nothing: one has
-/// another child than a range, and another node may be empty by its kind.
-fn is_close_to_repeating_nothing(accepted: &[u8]) -> bool {
-    let rules = usize::from(accepted[5]) * 256 + usize::from(accepted[6]);
-    let nodes: Vec<&[u8]> = accepted[7 + 2 * rules..].chunks(5).collect();
-    let is_range = |high: u8, low: u8| nodes[usize::from(high) * 256 + usize::from(low)][0] == 1;
-    let repeats_more = |node: &&[u8]| node[0] == 6 && !is_range(node[1], node[2]);
-    let empty = nodes.iter().filter(|node| matches!(node[0], 0 | 5 | 6));
-    nodes.iter().any(repeats_more) && empty.count() > 1
-}
-
 /// A reading tried out beforehand, to aim the edges of its commands.
 pub struct Trial {
     pub code: u64,
@@ -192,15 +33,15 @@ pub struct Trial {
 
 impl Trial {
     pub fn of(table: &[u8], line: &[u8], whole: bool, allowance: u64) -> Trial {
-        Trial::with(Live::LeftRecursive, table, line, whole, allowance)
+        Trial::with(Ways::NOW, table, line, whole, allowance)
     }
 
-    /// The same where these rules become live.
-    fn with(live: Live, table: &[u8], line: &[u8], whole: bool, allowance: u64) -> Trial {
+    /// The same in these ways.
+    fn with(ways: Ways, table: &[u8], line: &[u8], whole: bool, allowance: u64) -> Trial {
         let mut work = vec![0; needed(table, line, allowance) as usize];
         let mut room = vec![0; FULL_ROOM];
         let answer =
-            independent::read_with(live, table, line, allowance, &mut work, &mut room, whole);
+            independent::read_with(ways, table, line, allowance, &mut work, &mut room, whole);
         let stored = match answer.code {
             READ => 5 + 5 * answer.records as usize,
             _ => 0,
@@ -271,33 +112,41 @@ impl Maker {
         }
         if let Command::Read(lending) = command {
             tally.furthest.count(&numbers, self.desk.line().len());
-            self.count_growth(&numbers, &lending);
+            self.count_beside_others(&numbers, &lending);
         }
         if let Command::Report | Command::Read(_) = command {
             self.count_table();
         }
     }
 
-    /// Counts a reading of the current table and line beside one by which every
-    /// rule becomes live. Refusals that come before the first visit don't count.
-    fn count_growth(&mut self, numbers: &[u64], lending: &Lending) {
-        let (table, line) = (self.desk.table(), self.desk.line());
-        let was_read = matches!(numbers[0], READ | EFFORT..=ROOM);
-        if !was_read || independent::report(table).free {
+    /// Counts a reading of the current table and line beside those in older ways.
+    /// Refusals that come before the first visit don't count.
+    fn count_beside_others(&mut self, numbers: &[u64], lending: &Lending) {
+        if !matches!(numbers[0], READ | EFFORT..=ROOM) {
             return;
         }
+        let free = independent::report(self.desk.table()).free;
+        if !free {
+            let other = self.other(Ways::EVERY_LIVE, lending);
+            self.cases.tally.growth.count(numbers, other);
+        }
+        let nested = self.other(Ways::NESTED, lending);
+        self.cases.tally.turns.count(numbers, nested, free);
+    }
+
+    /// The numbers of the same reading in these ways.
+    fn other(&self, ways: Ways, lending: &Lending) -> [u64; 6] {
         let (mut work, mut room) = (lending.work(), lending.room());
-        let other = independent::read_with(
-            Live::Every,
-            table,
-            line,
+        let answer = independent::read_with(
+            ways,
+            self.desk.table(),
+            self.desk.line(),
             lending.allowance,
             &mut work,
             &mut room,
             lending.whole,
         );
-        let tally = &mut self.cases.tally;
-        tally.growth.count(numbers, other.numbers());
+        answer.numbers()
     }
 
     /// Counts the current table, unless it was counted before.
@@ -374,9 +223,9 @@ impl Maker {
         Trial::of(self.desk.table(), self.desk.line(), whole, allowance)
     }
 
-    /// The same where these rules become live.
-    pub fn trial_with(&self, live: Live, whole: bool, allowance: u64) -> Trial {
-        Trial::with(live, self.desk.table(), self.desk.line(), whole, allowance)
+    /// The same in these ways.
+    pub fn trial_with(&self, ways: Ways, whole: bool, allowance: u64) -> Trial {
+        Trial::with(ways, self.desk.table(), self.desk.line(), whole, allowance)
     }
 
     /// All edges of one reading: allowance, working numbers and room exact,
@@ -407,6 +256,25 @@ impl Maker {
             self.read_with_enough(whole, visits, stored - 1);
             self.read_with_enough(whole, visits, 0);
         }
+    }
+
+    /// The allowances at which the reading ends, and would end in other ways, with
+    /// one more and one less.
+    pub fn both_edges(&mut self, other: Ways, whole: bool) {
+        let most = self.affordable(6_000);
+        let mut allowances = Vec::new();
+        for ways in [Ways::NOW, other] {
+            let visits = self.trial_with(ways, whole, most).visits;
+            allowances.extend([visits.saturating_sub(1), visits, visits + 1]);
+        }
+        allowances.sort_unstable();
+        allowances.dedup();
+        for allowance in allowances {
+            if (1..=most).contains(&allowance) {
+                self.read_with_enough(whole, allowance, 200);
+            }
+        }
+        self.read_with_enough(!whole, most, 200);
     }
 
     /// The allowances at and beyond their limits. Working numbers for the

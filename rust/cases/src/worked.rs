@@ -6,6 +6,7 @@ mod growing;
 mod limits;
 mod lines;
 mod loops;
+mod rows;
 mod tables;
 
 use std::fmt::Write;
@@ -111,6 +112,7 @@ pub fn text() -> String {
     limits::allowance(&mut page);
     limits::open_visits(&mut page);
     limits::order_of_a_reading(&mut page);
+    rows::rows(&mut page);
     tables::counts(&mut page);
     tables::cuts(&mut page);
     tables::roots(&mut page);

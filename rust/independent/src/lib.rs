@@ -10,12 +10,14 @@ mod report;
 mod searches;
 mod stored;
 mod table;
+mod ways;
 
-pub use reading::{read, read_with, searches, Answer, Live};
+pub use reading::{read, read_with, searches, Answer};
 pub use report::{report, Report};
 pub use searches::Searches;
 pub use stored::well_formed;
 pub use table::check;
+pub use ways::{Live, Turns, Ways};
 
 pub const READ: u64 = 0;
 pub const SHORT: u64 = 1;

@@ -8,6 +8,7 @@ use crate::report::report_on;
 use crate::searches::Searches;
 use crate::stored::{store, stored_length};
 use crate::table::{open, Node, Table};
+use crate::ways::{Live, Turns, Ways};
 use crate::{names, Refusal, ALLOW, DEEP, EFFORT, FAIL, LINE, READ, RECORDS, REST, ROOM, WORK};
 
 /// What a reading returns.
@@ -52,9 +53,6 @@ impl fmt::Display for Answer {
 /// A tree over this many records is not stored.
 const MOST_RECORDS: u64 = 1_000;
 
-/// So many visits may be open at once.
-const MOST_OPEN: u64 = 512;
-
 /// One successful rule use.
 #[derive(Debug)]
 pub(crate) struct Tree {
@@ -85,15 +83,6 @@ enum Outcome {
     Match { end: usize, trees: Trees },
 }
 
-/// Which rules become live, and so grow, in a grammar that isn't free.
-#[derive(Clone, Copy, Debug, PartialEq, Eq)]
-pub enum Live {
-    /// The left-recursive ones, as the rules say.
-    LeftRecursive,
-    /// Every one, as the rules said before. Only to compare with.
-    Every,
-}
-
 /// A prefix reading, or a whole-line reading if `whole`.
 pub fn read(
     table: &[u8],
@@ -103,20 +92,12 @@ pub fn read(
     room: &mut [u8],
     whole: bool,
 ) -> Answer {
-    read_with(
-        Live::LeftRecursive,
-        table,
-        line,
-        allowance,
-        work,
-        room,
-        whole,
-    )
+    read_with(Ways::NOW, table, line, allowance, work, room, whole)
 }
 
-/// The same where these rules become live.
+/// The same in these ways.
 pub fn read_with(
-    live: Live,
+    ways: Ways,
     table: &[u8],
     line: &[u8],
     allowance: u64,
@@ -145,7 +126,7 @@ pub fn read_with(
         *number = 0;
     }
 
-    let mut reading = Reading::new(live, &table, line, allowance);
+    let mut reading = Reading::new(ways, &table, line, allowance);
     let outcome = reading.use_rule(0, 0);
     conclude(outcome, &reading, room, whole)
 }
@@ -154,7 +135,7 @@ pub fn read_with(
 /// is refused for effort or depth; `None` if the table is refused.
 pub fn searches(table: &[u8], line: &[u8], allowance: u64) -> Option<Searches> {
     let table = open(table).ok()?;
-    let mut reading = Reading::new(Live::LeftRecursive, &table, line, allowance);
+    let mut reading = Reading::new(Ways::NOW, &table, line, allowance);
     let _ = reading.use_rule(0, 0);
     Some(reading.searches)
 }
@@ -215,6 +196,7 @@ struct Reading<'a> {
     free: bool,
     /// All others: the rules that become live and grow.
     grows: Vec<bool>,
+    ways: Ways,
     /// Visits made.
     visits: u64,
     /// Visits open.
@@ -231,9 +213,9 @@ struct Reading<'a> {
 }
 
 impl<'a> Reading<'a> {
-    fn new(live: Live, table: &'a Table, line: &'a [u8], allowance: u64) -> Reading<'a> {
+    fn new(ways: Ways, table: &'a Table, line: &'a [u8], allowance: u64) -> Reading<'a> {
         let report = report_on(table);
-        let grows = |rule: usize| match live {
+        let grows = |rule: usize| match ways.live {
             Live::LeftRecursive => report.left_recursive >> rule & 1 == 1,
             Live::Every => true,
         };
@@ -243,6 +225,7 @@ impl<'a> Reading<'a> {
             allowance,
             free: report.free,
             grows: (0..table.roots.len()).map(grows).collect(),
+            ways,
             visits: 0,
             open: 0,
             furthest: 0,
@@ -258,7 +241,7 @@ impl<'a> Reading<'a> {
         if self.visits == self.allowance {
             return Err(refused_visit(EFFORT, position));
         }
-        if self.open == MOST_OPEN {
+        if self.open == self.ways.most_open {
             return Err(refused_visit(DEEP, position));
         }
         self.visits += 1;
@@ -343,10 +326,22 @@ impl<'a> Reading<'a> {
             // No trees even if the child made some.
             Outcome::Match { end, .. } if end == position => Ok(nothing(position)),
             Outcome::Match { end, trees } => {
-                let after = self.visit(itself, end)?;
+                let after = self.turn(itself, end)?;
                 Ok(joined(trees, after))
             }
         }
+    }
+
+    /// A repetition's own next visit. The one before gives up its place first, so
+    /// that fewer are open than may be: it is never too deep.
+    fn turn(&mut self, itself: usize, position: usize) -> Result<Outcome, Refusal> {
+        if self.ways.turns == Turns::Nested {
+            return self.visit(itself, position);
+        }
+        self.open -= 1;
+        let after = self.visit(itself, position)?;
+        self.open += 1;
+        Ok(after)
     }
 
     /// A use of a rule at a position. In a free grammar, and where the rule does
@@ -490,11 +485,11 @@ mod tests {
         2, 0, 2, 0, 0, // node 6: rule 2
     ];
 
-    fn visits(line: &[u8], free: bool, live: Live) -> u64 {
+    fn visits(line: &[u8], free: bool, ways: Ways) -> u64 {
         let table = open(&B_WITH_A_RULE_UNUSED).expect("an accepted table");
         let mut reading = Reading {
             free,
-            ..Reading::new(live, &table, line, 100)
+            ..Reading::new(ways, &table, line, 100)
         };
         assert!(reading.use_rule(0, 0).is_ok());
         reading.visits
@@ -504,10 +499,10 @@ mod tests {
     #[test]
     fn visits_as_a_free_grammar_and_as_another() {
         for (line, free, other, before) in [(b"1,5".as_slice(), 8, 8, 20), (b"1", 7, 8, 20)] {
-            assert_eq!(visits(line, true, Live::LeftRecursive), free);
-            assert_eq!(visits(line, true, Live::Every), free);
-            assert_eq!(visits(line, false, Live::LeftRecursive), other);
-            assert_eq!(visits(line, false, Live::Every), before);
+            assert_eq!(visits(line, true, Ways::NOW), free);
+            assert_eq!(visits(line, true, Ways::EVERY_LIVE), free);
+            assert_eq!(visits(line, false, Ways::NOW), other);
+            assert_eq!(visits(line, false, Ways::EVERY_LIVE), before);
         }
     }
 }

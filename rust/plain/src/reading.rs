@@ -299,18 +299,73 @@ impl Reading<'_> {
                 _ => FAILURE,
             },
             // Repetition.
-            _ => {
-                let before = self.visit::<FREE>(node.a(), position, open);
-                if before.end == STOPPED {
-                    return STOP;
-                }
-                if before.end == FAILED || before.end == position {
-                    return nothing(position);
-                }
-                let after = self.visit::<FREE>(number, before.end, open);
-                self.joined(before, after)
-            }
+            _ if FREE => self.kept_row(number, node.a(), position, open),
+            _ => self.row(node.a(), position, open),
         }
+    }
+
+    /// A repetition where nothing is kept: each of its next visits takes the
+    /// place of the one before, and the trees are joined as they come.
+    #[inline(never)]
+    fn row(&mut self, child: u32, position: u32, open: u32) -> Outcome {
+        let mut read = nothing(position);
+        loop {
+            let turn = self.visit::<false>(child, read.end, open);
+            if turn.end == STOPPED {
+                return STOP;
+            }
+            if turn.end == FAILED || turn.end == read.end {
+                return read;
+            }
+            read = self.joined(read, turn);
+            if self.left == 0 {
+                return self.refuse(EFFORT, read.end);
+            }
+            self.left -= 1;
+        }
+    }
+
+    /// A repetition in a free grammar: when the row ends it is gone back over,
+    /// to keep each pair. While a pair of the row waits for its answer, it
+    /// holds where the visit before it was made.
+    #[inline(never)]
+    fn kept_row(&mut self, number: u32, child: u32, position: u32, open: u32) -> Outcome {
+        let own = number as usize * self.positions;
+        let mut at = position;
+        let mut answer = loop {
+            let turn = self.visit::<true>(child, at, open);
+            if turn.end == STOPPED {
+                return STOP;
+            }
+            if turn.end == FAILED || turn.end == at {
+                break nothing(at);
+            }
+            if self.left == 0 {
+                return self.refuse(EFFORT, turn.end);
+            }
+            self.left -= 1;
+            let next = &mut self.kept[own + turn.end as usize];
+            let [end, trees] = *next;
+            if end != 0 {
+                let rest = Outcome {
+                    end: end - 1,
+                    trees,
+                };
+                break self.joined(turn, rest);
+            }
+            next[1] = at;
+            at = turn.end;
+        };
+        let below = child as usize * self.positions;
+        while at != position {
+            let next = &mut self.kept[own + at as usize];
+            let before = next[1];
+            *next = [answer.end + 1, answer.trees];
+            let [_, trees] = self.kept[below + before as usize];
+            answer = self.joined(Outcome { end: at, trees }, answer);
+            at = before;
+        }
+        answer
     }
 
     #[inline(always)]

@@ -1,4 +1,4 @@
--- `no_visits` writes the three numbers as 0.
+-- `no_visits` writes the four numbers as 0.
 use borrow.Author.Needs.{needs}
 use Rattle.visits.proofs.no_visits.Statement.{statement}
 use Rattle.visits.proofs.no_visits.Tie as tie
@@ -14,6 +14,9 @@ slice-write-work-2 c = simp length-set (omega arith)
 slice-write-work-3 : tie.Need-slice-write-work-3
 slice-write-work-3 c = simp length-set (omega arith)
 
+slice-write-work-4 : tie.Need-slice-write-work-4
+slice-write-work-4 c = simp length-set (omega arith)
+
 same-length : tie.Need-same-length
 same-length c = search needs
 
@@ -21,4 +24,4 @@ returns : tie.Need-returns
 returns c = search needs
 
 pub no-visits-spec : {M : Type 1} → statement M
-no-visits-spec = tie.close (tie.spec slice-write-work slice-write-work-2 slice-write-work-3 same-length returns)
+no-visits-spec = tie.close (tie.spec slice-write-work slice-write-work-2 slice-write-work-3 slice-write-work-4 same-length returns)

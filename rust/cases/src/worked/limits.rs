@@ -3,6 +3,7 @@
 use sheets::{sheet_a, Sheet};
 
 use super::{nothing_lent, prefix, whole, Asked, Page};
+use crate::deep::right_recursive;
 
 pub(super) fn line_length(page: &mut Page) {
     let mut sheet = Sheet::new();
@@ -60,24 +61,20 @@ pub(super) fn allowance(page: &mut Page) {
     page.reading("A on 7+2, allowance 100000", &a, b"7+2", asked);
 }
 
-/// 500 nots over 'a'*. On so many bytes of 'a' the most visits are open when
-/// the range fails at the line's end: 502 and the bytes.
+/// S <- pads T; T <- 'a' T / empty. On 169 bytes the most visits are open when the
+/// range fails at the line's end: 511 and the pads. Before that one 679 are made,
+/// and two with each pad.
 pub(super) fn open_visits(page: &mut Page) {
-    let mut sheet = Sheet::new();
-    let a = sheet.byte(b'a');
-    let all = sheet.repetition(a);
-    let top = (0..500).fold(all, |child, _| sheet.not(child));
-    sheet.root(top);
-    let table = sheet.bytes();
-    for open in [511, 512, 513] {
-        let name = format!("{open} open visits");
-        page.reading(&name, &table, &vec![b'a'; open - 502], prefix(550));
+    let line = [b'a'; 169];
+    for pads in [0, 1, 2] {
+        let name = format!("{} open visits", 511 + pads);
+        page.reading(&name, &right_recursive(pads).bytes(), &line, prefix(2_500));
     }
     page.reading(
-        "513 open visits, allowance 523",
-        &table,
-        &[b'a'; 11],
-        prefix(523),
+        "513 open visits, allowance 683",
+        &right_recursive(2).bytes(),
+        &line,
+        prefix(683),
     );
 }
 

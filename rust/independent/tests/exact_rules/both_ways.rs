@@ -4,27 +4,9 @@
 //! On random small grammars; so many as `KOSKORBELU_GRAMMARS` says if it is set.
 
 use super::calls::*;
-use super::sheets::*;
+use super::random::*;
+use super::sheets::table;
 use independent::*;
-
-const GRAMMARS: u64 = 4_000;
-
-/// splitmix64
-struct Random(u64);
-
-impl Random {
-    fn below(&mut self, bound: u64) -> u64 {
-        self.0 = self.0.wrapping_add(0x9E37_79B9_7F4A_7C15);
-        let mut z = self.0;
-        z = (z ^ (z >> 30)).wrapping_mul(0xBF58_476D_1CE4_E5B9);
-        z = (z ^ (z >> 27)).wrapping_mul(0x94D0_49BB_1331_11EB);
-        (z ^ (z >> 31)) % bound
-    }
-
-    fn pick<T: Copy>(&mut self, from: &[T]) -> T {
-        from[self.below(from.len() as u64) as usize]
-    }
-}
 
 /// How many readings there were of each sort.
 #[derive(Debug, Default)]
@@ -43,10 +25,7 @@ struct Seen {
 
 #[test]
 fn random_grammars_both_ways() {
-    let grammars = match std::env::var("KOSKORBELU_GRAMMARS") {
-        Ok(number) => number.parse().expect("a number of grammars"),
-        Err(_) => GRAMMARS,
-    };
+    let grammars = how_many_grammars();
     let mut random = Random(205);
     let mut seen = Seen::default();
     for _ in 0..grammars {
@@ -86,7 +65,7 @@ fn compare(
     seen: &mut Seen,
 ) -> (Answer, Answer) {
     let now = reads(table, line, allowance, whole);
-    let before = reads_with(Live::Every, table, line, allowance, whole);
+    let before = reads_with(Ways::EVERY_LIVE, table, line, allowance, whole);
     let context = || format!("{table:?} on {line:?}, allowance {allowance}");
     let (new, old) = (now.answer, before.answer);
     if report(table).free {
@@ -124,67 +103,13 @@ fn accepted(random: &mut Random) -> Vec<u8> {
     loop {
         let rules = 1 + random.below(5);
         let nodes = 2 + random.below(10);
-        let table = some_table(random, nodes, rules);
+        let (roots, nodes) = some_grammar(random, nodes, rules);
+        let table = table(&roots, &nodes);
         let report = report(&table);
         let mixed = !report.free && report.how_many < rules;
         if report.code == READ && (mixed || random.below(5) == 0) {
             return table;
         }
-    }
-}
-
-fn some_table(random: &mut Random, nodes: u64, rules: u64) -> Vec<u8> {
-    let mut nodes: Vec<_> = (0..nodes)
-        .map(|number| some_node(random, number, rules))
-        .collect();
-    let mut roots = Vec::new();
-    for _ in 0..rules {
-        // Mostly late nodes, which have more below them.
-        let made = nodes.len() as u64;
-        let body = random.below(made).max(random.below(made)) as u16;
-        let used = (RULE, random.below(rules) as u16, 0);
-        let shape = random.below(8);
-        roots.push(match shape {
-            0..=2 => longer(&mut nodes, used, None, body),
-            3 => longer(&mut nodes, (RANGE, 97, 97), Some(used), body),
-            _ => body,
-        });
-    }
-    table(&roots, &nodes)
-}
-
-type Node = (u8, u16, u16);
-
-/// The two nodes in order, or else the body; the body is the second if none is
-/// given.
-fn longer(nodes: &mut Vec<Node>, first: Node, second: Option<Node>, body: u16) -> u16 {
-    let mut add = |node| {
-        nodes.push(node);
-        nodes.len() as u16 - 1
-    };
-    let first = add(first);
-    let second = second.map_or(body, &mut add);
-    let both = add((SEQ, first, second));
-    add((CHOICE, both, body))
-}
-
-fn some_node(random: &mut Random, number: u64, rules: u64) -> Node {
-    let kind = match number < 2 || random.below(3) == 0 {
-        true => random.pick(&[EMPTY, RANGE, RANGE, RANGE, RANGE, RULE, RULE, RULE, RULE]),
-        false => random.pick(&[SEQ, SEQ, SEQ, CHOICE, CHOICE, CHOICE, NOT, REPEAT]),
-    };
-    let mut child = || random.below(number.max(1)) as u16;
-    match kind {
-        RANGE => random.pick(&[
-            (RANGE, 97, 97),
-            (RANGE, 97, 97),
-            (RANGE, 98, 98),
-            (RANGE, 97, 98),
-        ]),
-        RULE => (RULE, random.below(rules) as u16, 0),
-        SEQ | CHOICE => (kind, child(), child()),
-        NOT | REPEAT => (kind, child(), 0),
-        _ => (EMPTY, 0, 0),
     }
 }
 

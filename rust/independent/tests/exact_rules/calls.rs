@@ -25,9 +25,9 @@ pub fn run(
     Outcome { answer, work, room }
 }
 
-/// The same where these rules become live.
+/// The same in these ways.
 fn run_with(
-    live: Live,
+    ways: Ways,
     table: &[u8],
     line: &[u8],
     allowance: u64,
@@ -36,7 +36,7 @@ fn run_with(
 ) -> Outcome {
     let mut work = vec![MARK; work];
     let mut room = vec![FILL; 5_010];
-    let answer = read_with(live, table, line, allowance, &mut work, &mut room, whole);
+    let answer = read_with(ways, table, line, allowance, &mut work, &mut room, whole);
     Outcome { answer, work, room }
 }
 
@@ -59,13 +59,13 @@ pub fn line_was_read(code: u64) -> bool {
 /// Reads with five numbers and five bytes more than needed and checks what
 /// is left in both buffers.
 pub fn reads(table: &[u8], line: &[u8], allowance: u64, whole: bool) -> Outcome {
-    reads_with(Live::LeftRecursive, table, line, allowance, whole)
+    reads_with(Ways::NOW, table, line, allowance, whole)
 }
 
-/// The same where these rules become live.
-pub fn reads_with(live: Live, table: &[u8], line: &[u8], allowance: u64, whole: bool) -> Outcome {
+/// The same in these ways.
+pub fn reads_with(ways: Ways, table: &[u8], line: &[u8], allowance: u64, whole: bool) -> Outcome {
     let needed = formula(table, line, allowance);
-    let outcome = run_with(live, table, line, allowance, needed + 5, whole);
+    let outcome = run_with(ways, table, line, allowance, needed + 5, whole);
     let code = outcome.answer.code;
     let expected = if line_was_read(code) { 0 } else { MARK };
     assert!(outcome.work[..needed]

@@ -7,7 +7,7 @@ use independent::*;
 
 /// The answer if every rule became live.
 fn before(table: &[u8], line: &[u8]) -> Answer {
-    reads_with(Live::Every, table, line, 2_500, false).answer
+    reads_with(Ways::EVERY_LIVE, table, line, 2_500, false).answer
 }
 
 /// The report's mask of left-recursive rules, of a table that isn't free.
@@ -57,7 +57,7 @@ fn sheet_a_at_the_edges_of_the_allowance() {
     for allowance in [19, 20, 21] {
         let now = reads(&sheet_a(), b"7+2", allowance, true).answer;
         assert_eq!(now, answer(READ, 0, 3, 19, 4, 3));
-        let before = reads_with(Live::Every, &sheet_a(), b"7+2", allowance, true).answer;
+        let before = reads_with(Ways::EVERY_LIVE, &sheet_a(), b"7+2", allowance, true).answer;
         assert_eq!((before.code, before.visits), (EFFORT, allowance));
     }
     let short = reads(&sheet_a(), b"7+2", 18, true).answer;
