@@ -15,7 +15,7 @@
  *
  * A table is a sheet in bytes; docs/FORMAT.md says which.
  *
- * A call takes at most 102,400 bytes of stack (KOS_STACK) on x86-64 with this
+ * A call takes at most 94,208 bytes of stack (KOS_STACK) on x86-64 with this
  * kit's compiler: that is measured (c/stack.c) and rounded up, not proved.
  * Nothing is allocated, kept between calls or shared: calls with buffers of
  * their own may run at the same time. The same arguments give the same answer.
@@ -95,7 +95,7 @@ enum kos_at {
 #define KOS_MOST_STORED 5005
 
 /* Bytes of stack that a call takes at most, as measured on x86-64. */
-#define KOS_STACK 102400
+#define KOS_STACK 94208
 
 /*
  * Whether the table is a sheet.

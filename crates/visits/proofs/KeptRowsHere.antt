@@ -159,11 +159,11 @@ module _ (given : Given) (line : List ℕ) (spot i : ℕ) (w₀ : List ℕ) (rea
           made₂ : madeIn counted ≡ madeIn w₁ + 1
           made₂ = count-made given line w₁ (madeIn w₁ + 1) long
 
-          turns₂ : turnsIn counted ≡ n
-          turns₂ = written-same given line 2043 (omega arith) (omega arith) w₁ (madeIn w₁ + 1) {live = liveIn spot} {top = 0} few .turns ∙ turns-now
+          pub still-turns : turnsIn counted ≡ n
+          still-turns = written-same given line 2043 (omega arith) (omega arith) w₁ (madeIn w₁ + 1) {live = liveIn spot} {top = 0} few .turns ∙ turns-now
 
           low₂ : topIn counted + turnsIn counted < allowanceIn given
-          low₂ = omega (arith, cells-now, ready .top-in, top₂, turns₂)
+          low₂ = omega (arith, cells-now, ready .top-in, top₂, still-turns)
 
           pub look-room : Roomy (lent [] (given .numbers)) line counted i (endIn a)
           look-room = roomy given line counted i (endIn a) (ready .fit) (words₂ .room) (ready .node-in) inside
@@ -176,7 +176,7 @@ module _ (given : Given) (line : List ℕ) (spot i : ℕ) (w₀ : List ℕ) (rea
             pos-in = inside;
             open-in = ready .open-in;
             made-in = omega (arith, made₂);
-            top-in = omega (arith, cells-now, ready .top-in, top₂, made₂, turns₂);
+            top-in = omega (arith, cells-now, ready .top-in, top₂, made₂, still-turns);
             order = λ p. clash free p;
           }
 
@@ -205,7 +205,7 @@ module _ (given : Given) (line : List ℕ) (spot i : ℕ) (w₀ : List ℕ) (rea
               made₃ = added-made d ∙ made₂
 
               turns₃ : turnsIn w₃ ≡ n
-              turns₃ = d .below 2041 (omega arith) (omega arith) ∙ turns₂
+              turns₃ = d .below 2041 (omega arith) (omega arith) ∙ still-turns
 
               joined-came : Came given line counted w₃ (liveIn spot) (madeIn counted) (topIn counted) (result (endIn rest) (listIn both) (topIn w₃) (madeIn counted)) (λ l s. after (opens given line (leftIn spot) l i (endIn a) s) (joined (treesAt counted (listIn a))))
               joined-came = came-joined given line (ready .fit) few low₂ (treesAt counted (listIn a)) (found .came) pair-end d
@@ -223,7 +223,7 @@ module _ (given : Given) (line : List ℕ) (spot i : ℕ) (w₀ : List ℕ) (rea
               waits₃ : Waiting given line w₃ (topIn w₃) (turnsIn w₀) n (g .turns)
               waits₃ =
                   let l = low₂ in
-                  let t = turns₂ in
+                  let t = still-turns in
                   let up = d .rise in
                   let one = d .one in
                   waiting-same given line w₁ w₃ (topIn w₁) (topIn w₃) n (omega arith)
@@ -242,7 +242,7 @@ module _ (given : Given) (line : List ℕ) (spot i : ℕ) (w₀ : List ℕ) (rea
           -- Nothing is kept for it: the turn waits, and the loop goes on.
           module _ (new : getD counted (placeIn given line i (endIn a)) 0 ≡ 0) where
             pub has-turn : HasTurn (lent [] (given .numbers)) counted (n + 1)
-            has-turn = record { allowance = ready .fit .allowance; some = omega arith; within = omega (arith, low₂, turns₂); room = omega (arith, words₂ .room) }
+            has-turn = record { allowance = ready .fit .allowance; some = omega arith; within = omega (arith, low₂, still-turns); room = omega (arith, words₂ .room) }
 
             -- The words that hold how many cells are in use and how many visits are made are those of before.
             put-other : (list j : ℕ) → 2041 < j → j < 2048 → getD (withTurn given counted (n + 1) x list) j 0 ≡ getD counted j 0

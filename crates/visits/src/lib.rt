@@ -252,19 +252,19 @@ fn visit_row(
     ensures lent { λ _. ⌜ (now (work .exit)) .name ≡ (now (work .entry)) .name ⌝ }
 {
     let x = a_of(given, *table, node);
-    let mut at = pos_of(spot);
+    let mut here = spot;
     let mut list = 0;
     let last = loop {
-        let turn = visit(given, table, line, work, moved(spot, at), x);
+        let turn = visit(given, table, line, work, here, x);
         let end = end_of(turn);
         if end == STOPPED {
             break turn;
         }
         if end == FAILED {
-            break answer(at, list);
+            break answer(pos_of(here), list);
         }
-        if end == at {
-            break answer(at, list);
+        if end == pos_of(here) {
+            break answer(end, list);
         }
         let both = joined(*work, end, list, list_of(turn));
         let refused = enter_in_place(given, work);
@@ -272,7 +272,7 @@ fn visit_row(
             break answer(STOPPED, refused * PLACES + end);
         }
         list = list_of(both);
-        at = end;
+        here = moved(here, end);
     };
     last
 }
@@ -294,10 +294,9 @@ fn keep_row(
 {
     let x = a_of(given, *table, node);
     let before = work[TURNS];
-    let mut turns = before;
-    let mut at = pos_of(spot);
+    let mut here = spot;
     let last = loop {
-        let a = visit(given, table, line, work, moved(spot, at), x);
+        let a = visit(given, table, line, work, here, x);
         let end = end_of(a);
         if end == STOPPED {
             set_turns(*work, before);
@@ -309,22 +308,22 @@ fn keep_row(
                 table,
                 line,
                 work,
-                moved(spot, at),
+                here,
                 node,
                 before,
-                answer(at, 0),
+                answer(pos_of(here), 0),
             );
         }
-        if end == at {
+        if end == pos_of(here) {
             break go_back(
                 given,
                 table,
                 line,
                 work,
-                moved(spot, at),
+                here,
                 node,
                 before,
-                answer(at, 0),
+                answer(pos_of(here), 0),
             );
         }
         let refused = enter_in_place(given, work);
@@ -336,20 +335,11 @@ fn keep_row(
         if word != 0 {
             let rest = kept_answer(given, *line, work, node, end, word);
             let both = joined(*work, end_of(rest), list_of(a), list_of(rest));
-            break go_back(
-                given,
-                table,
-                line,
-                work,
-                moved(spot, at),
-                node,
-                before,
-                both,
-            );
+            break go_back(given, table, line, work, here, node, before, both);
         }
-        turns += 1;
-        put_turn(given, *work, turns, at, list_of(a));
-        at = end;
+        let turns = work[TURNS] + 1;
+        put_turn(given, *work, turns, pos_of(here), list_of(a));
+        here = moved(here, end);
     };
     last
 }

@@ -24,7 +24,7 @@ use mathlib.Core.Path.{_≡_, refl, sym, ap, _∙_}
 use lib.ListN.{getD, set}
 use Rattle.meaning.specs.Grammar.{_⋈_}
 use Rattle.cells.specs.Cells.{treesAt}
-use Rattle.visits.specs.Given.{lent, aIn, allowanceIn, leftIn, liveIn, posIn}
+use Rattle.visits.specs.Given.{lent, aIn, allowanceIn, leftIn, liveIn, posIn, Moved}
 use Rattle.visits.specs.Words.{turnsIn, topIn, madeIn, placeIn, Added}
 use Rattle.visits.specs.Says.{STOPPED, endIn, listIn, KeptAnswer, Visits, after-visit, reading}
 use Rattle.visits.proofs.ByKind.{repetition-child}
@@ -32,26 +32,27 @@ use Rattle.visits.proofs.Ready.{node-known}
 use Rattle.visits.proofs.Depth.{starts-moved, ends-moved}
 use Rattle.visits.proofs.Pairs.{matched}
 use Rattle.visits.proofs.RowsHere.{full-small, counts}
-use Rattle.visits.proofs.KeptRowsHere.{KeptRowIn, begins, child-starts, long, still-long, refuses, end-ready, ends, full, look-room, join-ready, found-ready, found-ends, has-turn, goes-on, nearer}
+use Rattle.visits.proofs.KeptRowsHere.{KeptRowIn, begins, child-starts, long, still-long, refuses, end-ready, ends, full, look-room, join-ready, found-ready, found-ends, still-turns, has-turn, goes-on, nearer}
 use Rattle.visits.proofs.+apply+keep_row+use_fresh+use_live+use_once+use_rule+visit+visit_choice+visit_not+visit_open+visit_pair+visit_repetition+visit_row+visit_sequence.Proof.Ranks.{keep-row-at, visit-below}
 
 abbrev keep-row-claims : ℕ → keep-row-lts.Claims
-keep-row-claims t = (a-of-reads.Asked, a-of-reads.Learnt, pos-of-reads.Asked, pos-of-reads.Learnt, moved-reads.Asked, moved-reads.Learnt, visit-below t, visit.Post, end-of-reads.Asked, end-of-reads.Learnt, set-turns-reads.Asked, set-turns-reads.Learnt, answer-reads.Asked, answer-reads.Learnt, go-back-reads.Asked, go-back-reads.Learnt, enter-in-place-reads.Asked, enter-in-place-reads.Learnt, kept-word-reads.Asked, kept-word-reads.Learnt, kept-answer-reads.Asked, kept-answer-reads.Learnt, list-of-reads.Asked, list-of-reads.Learnt, joined-reads.Asked, joined-reads.Learnt, put-turn-reads.Asked, put-turn-reads.Learnt)
+keep-row-claims t = (a-of-reads.Asked, a-of-reads.Learnt, visit-below t, visit.Post, end-of-reads.Asked, end-of-reads.Learnt, set-turns-reads.Asked, set-turns-reads.Learnt, pos-of-reads.Asked, pos-of-reads.Learnt, answer-reads.Asked, answer-reads.Learnt, go-back-reads.Asked, go-back-reads.Learnt, enter-in-place-reads.Asked, enter-in-place-reads.Learnt, kept-word-reads.Asked, kept-word-reads.Learnt, kept-answer-reads.Asked, kept-answer-reads.Learnt, list-of-reads.Asked, list-of-reads.Learnt, joined-reads.Asked, joined-reads.Learnt, put-turn-reads.Asked, put-turn-reads.Learnt, moved-reads.Asked, moved-reads.Learnt)
 
+-- What the loop keeps true, where the visit at hand stands at `here`.
 abbrev keep-row-Inv-loop : keep-row-lts.InvT-loop
-keep-row-Inv-loop given table line work₀ spot node x before turns₀ at₀ work turns at = KeptRowIn (lent (table .now) given) (line .now) spot node (work₀ .now) (work .now) at turns × ((before ≡ turnsIn (work₀ .now)) × (work .name ≡ work₀ .name))
+keep-row-Inv-loop given table line work₀ spot node x before here₀ work here = KeptRowIn (lent (table .now) given) (line .now) spot node (work₀ .now) (work .now) (posIn here) (turnsIn (work .now)) × ((before ≡ turnsIn (work₀ .now)) × (Moved spot (posIn here) here × (work .name ≡ work₀ .name)))
 
 abbrev keep-row-μ-loop : keep-row-lts.MeasureT-loop
-keep-row-μ-loop given table line work₀ spot node x before turns₀ at₀ work turns at = getD given 0 0 - madeIn (work .now)
+keep-row-μ-loop given table line work₀ spot node x before here₀ work here = getD given 0 0 - madeIn (work .now)
 
 -- The child was visited, where the repetition stands.
 keep-row-visited : (t : ℕ) (c : keep-row-lts.After-visit (keep-row-claims t) (keep-row-at t) keep-row.Post keep-row-Inv-loop keep-row-μ-loop)
-    → let args = c .before .before .before .before .before .before .before .before .args in
+    → let args = c .before .before .before .before .before .before .args in
     let given = lent (args .table .now .now) (args .given .now) in
-    let words = c .before .before .before .loop .work .now in
-    Visits given (args .line .now .now) words (c .visit .last .1 .1 .1 .0 .now) (liveIn (args .spot)) (c .before .before .before .loop .at) (madeIn words) (topIn words) (after-visit (c .visit .result) (c .visit .last .1 .1 .1 .0 .now))
-    (λ l s. reading given (args .line .now .now) (leftIn (args .spot)) l (aIn given (args .node)) (c .before .before .before .loop .at) s)
-keep-row-visited t c = rw (c .before .before .before .before .before .before .a-of .ensures .0) at (ends-moved _ _ (c .before .moved .ensures) _ _ (c .visit .ensures .0))
+    let words = c .before .before .loop .work .now in
+    Visits given (args .line .now .now) words (c .visit .last .1 .1 .1 .0 .now) (liveIn (args .spot)) (posIn (c .before .before .loop .here)) (madeIn words) (topIn words) (after-visit (c .visit .result) (c .visit .last .1 .1 .1 .0 .now))
+    (λ l s. reading given (args .line .now .now) (leftIn (args .spot)) l (aIn given (args .node)) (posIn (c .before .before .loop .here)) s)
+keep-row-visited t c = rw (c .before .before .before .before .a-of .ensures .0) at (ends-moved _ _ (c .before .before .loop .inv .1 .1 .0) _ _ (c .visit .ensures .0))
 
 keep-row-a-of-requires : (t : ℕ) → keep-row-lts.Need-a-of-requires (keep-row-claims t) (keep-row-at t) keep-row.Post keep-row-Inv-loop keep-row-μ-loop
 keep-row-a-of-requires t c κs =
@@ -61,22 +62,17 @@ keep-row-index-1-before : (t : ℕ) → keep-row-lts.Need-index-1-before (keep-r
 keep-row-index-1-before t c =
     omega (arith, c .before .before .pre .1 .0 .words .room)
 
-keep-row-pos-of-requires : (t : ℕ) → keep-row-lts.Need-pos-of-requires (keep-row-claims t) (keep-row-at t) keep-row.Post keep-row-Inv-loop keep-row-μ-loop
-keep-row-pos-of-requires t c κs = tt
-
 keep-row-loop-holds : (t : ℕ) → keep-row-lts.Need-loop-holds (keep-row-claims t) (keep-row-at t) keep-row.Post keep-row-Inv-loop keep-row-μ-loop
 keep-row-loop-holds t c =
-    let pre = c .before .before .before .before .pre .1 in
-    (rw (c .pos-of .ensures) (begins _ _ _ _ _ (pre .0) (pre .1 .0 .0) (pre .1 .0 .1) (pre .1 .1)), (refl, refl))
-
-keep-row-moved-requires : (t : ℕ) → keep-row-lts.Need-moved-requires (keep-row-claims t) (keep-row-at t) keep-row.Post keep-row-Inv-loop keep-row-μ-loop
-keep-row-moved-requires t c κs = tt
+    let pre = c .before .before .before .pre .1 in
+    (begins _ _ _ _ _ (pre .0) (pre .1 .0 .0) (pre .1 .0 .1) (pre .1 .1), (refl, (record { left = refl; live = refl; there = refl }, refl)))
 
 keep-row-visit-requires : (t : ℕ) → keep-row-lts.Need-visit-requires (keep-row-claims t) (keep-row-at t) keep-row.Post keep-row-Inv-loop keep-row-μ-loop
 keep-row-visit-requires t c κs =
-    let pre = c .before .before .before .before .before .before .before .pre .1 in
-    let x = c .before .before .before .before .before .a-of .ensures .0 in
-    (omega (arith, c .before .before .before .before .before .before .before .pre .0, c .moved .ensures .left), rw x (starts-moved _ _ (c .moved .ensures) _ (child-starts _ _ _ _ _ (pre .0) (pre .1 .0 .0) (pre .1 .0 .1) (pre .1 .1) (c .before .before .loop .inv .0) (repetition-child _ _ (pre .0 .fit) _ (pre .0 .node-in) (pre .1 .0 .1)))))
+    let pre = c .before .before .before .before .before .pre .1 in
+    let x = c .before .before .before .a-of .ensures .0 in
+    let here = c .before .loop .inv .1 .1 .0 in
+    (omega (arith, c .before .before .before .before .before .pre .0, here .left), rw x (starts-moved _ _ here _ (child-starts _ _ _ _ _ (pre .0) (pre .1 .0 .0) (pre .1 .0 .1) (pre .1 .1) (c .before .loop .inv .0) (repetition-child _ _ (pre .0 .fit) _ (pre .0 .node-in) (pre .1 .0 .1)))))
 
 keep-row-end-of-requires : (t : ℕ) → keep-row-lts.Need-end-of-requires (keep-row-claims t) (keep-row-at t) keep-row.Post keep-row-Inv-loop keep-row-μ-loop
 keep-row-end-of-requires t c κs = tt
@@ -86,58 +82,61 @@ keep-row-slice-aggregate-set-turns t c = refl
 
 keep-row-set-turns-requires : (t : ℕ) → keep-row-lts.Need-set-turns-requires (keep-row-claims t) (keep-row-at t) keep-row.Post keep-row-Inv-loop keep-row-μ-loop
 keep-row-set-turns-requires t c κs =
-    let pre = c .before .before .before .before .before .before .before .before .before .before .before .pre .1 in
-    long _ _ _ _ _ (pre .0) (pre .1 .0 .0) (pre .1 .0 .1) (pre .1 .1) (c .before .before .before .before .before .before .loop .inv .0) _ (keep-row-visited t (c .before .before .before))
+    let pre = c .before .before .before .before .before .before .before .before .before .pre .1 in
+    long _ _ _ _ _ (pre .0) (pre .1 .0 .0) (pre .1 .0 .1) (pre .1 .1) (c .before .before .before .before .before .loop .inv .0) _ (keep-row-visited t (c .before .before .before))
 
 keep-row-returns : (t : ℕ) → keep-row-lts.Need-returns (keep-row-claims t) (keep-row-at t) keep-row.Post keep-row-Inv-loop keep-row-μ-loop
 keep-row-returns t c =
-    let pre = c .before .before .before .before .before .before .before .before .before .before .before .before .pre .1 in
-    (refuses _ _ _ _ _ (pre .0) (pre .1 .0 .0) (pre .1 .0 .1) (pre .1 .1) (c .before .before .before .before .before .before .before .loop .inv .0) _ (keep-row-visited t (c .before .before .before .before)) (sym (c .before .before .before .end-of .ensures) ∙ c .before .before .if1 .taken) (c .set-turns .ensures), c .before .before .before .before .visit .ensures .1 ∙ c .before .before .before .before .before .before .before .loop .inv .1 .1)
+    let pre = c .before .before .before .before .before .before .before .before .before .before .pre .1 in
+    (refuses _ _ _ _ _ (pre .0) (pre .1 .0 .0) (pre .1 .0 .1) (pre .1 .1) (c .before .before .before .before .before .before .loop .inv .0) _ (keep-row-visited t (c .before .before .before .before)) (sym (c .before .before .before .end-of .ensures) ∙ c .before .before .if1 .taken) (c .set-turns .ensures), c .before .before .before .before .visit .ensures .1 ∙ c .before .before .before .before .before .before .loop .inv .1 .1 .1)
 
-keep-row-moved-requires-2 : (t : ℕ) → keep-row-lts.Need-moved-requires-2 (keep-row-claims t) (keep-row-at t) keep-row.Post keep-row-Inv-loop keep-row-μ-loop
-keep-row-moved-requires-2 t c κs = tt
+keep-row-pos-of-requires : (t : ℕ) → keep-row-lts.Need-pos-of-requires (keep-row-claims t) (keep-row-at t) keep-row.Post keep-row-Inv-loop keep-row-μ-loop
+keep-row-pos-of-requires t c κs = tt
 
 keep-row-answer-requires : (t : ℕ) → keep-row-lts.Need-answer-requires (keep-row-claims t) (keep-row-at t) keep-row.Post keep-row-Inv-loop keep-row-μ-loop
 keep-row-answer-requires t c κs = tt
 
 keep-row-go-back-requires : (t : ℕ) → keep-row-lts.Need-go-back-requires (keep-row-claims t) (keep-row-at t) keep-row.Post keep-row-Inv-loop keep-row-μ-loop
 keep-row-go-back-requires t c κs =
-    let pre = c .before .before .before .before .before .before .before .before .before .before .before .before .before .before .pre .1 in
-    end-ready _ _ _ _ _ (pre .0) (pre .1 .0 .0) (pre .1 .0 .1) (pre .1 .1) (c .before .before .before .before .before .before .before .before .before .loop .inv .0) _ (keep-row-visited t (c .before .before .before .before .before .before)) (inl (sym (c .before .before .before .before .before .end-of .ensures) ∙ c .before .before .before .if2 .taken)) _ (c .answer .ensures .0) (c .answer .ensures .1) _ (c .before .moved2 .ensures)
+    let pre = c .before .before .before .before .before .before .before .before .before .before .before .before .pre .1 in
+    end-ready _ _ _ _ _ (pre .0) (pre .1 .0 .0) (pre .1 .0 .1) (pre .1 .1) (c .before .before .before .before .before .before .before .before .loop .inv .0) _ (keep-row-visited t (c .before .before .before .before .before .before)) (inl (sym (c .before .before .before .before .before .end-of .ensures) ∙ c .before .before .before .if2 .taken)) _ (c .answer .ensures .0 ∙ c .before .pos-of .ensures) (c .answer .ensures .1) _ (c .before .before .before .before .before .before .before .before .loop .inv .1 .1 .0)
 
 keep-row-returns-2 : (t : ℕ) → keep-row-lts.Need-returns-2 (keep-row-claims t) (keep-row-at t) keep-row.Post keep-row-Inv-loop keep-row-μ-loop
 keep-row-returns-2 t c =
-    let pre = c .before .before .before .before .before .before .before .before .before .before .before .before .before .before .before .pre .1 in
-    (ends _ _ _ _ _ (pre .0) (pre .1 .0 .0) (pre .1 .0 .1) (pre .1 .1) (c .before .before .before .before .before .before .before .before .before .before .loop .inv .0) _ (keep-row-visited t (c .before .before .before .before .before .before .before)) (inl (sym (c .before .before .before .before .before .before .end-of .ensures) ∙ c .before .before .before .before .if2 .taken)) _ (c .before .answer .ensures .0) (c .before .answer .ensures .1) _ (c .before .before .moved2 .ensures) _ (c .go-back .ensures .0), c .go-back .ensures .1 ∙ c .before .before .before .before .before .before .before .visit .ensures .1 ∙ c .before .before .before .before .before .before .before .before .before .before .loop .inv .1 .1)
+    let pre = c .before .before .before .before .before .before .before .before .before .before .before .before .before .pre .1 in
+    (ends _ _ _ _ _ (pre .0) (pre .1 .0 .0) (pre .1 .0 .1) (pre .1 .1) (c .before .before .before .before .before .before .before .before .before .loop .inv .0) _ (keep-row-visited t (c .before .before .before .before .before .before .before)) (inl (sym (c .before .before .before .before .before .before .end-of .ensures) ∙ c .before .before .before .before .if2 .taken)) _ (c .before .answer .ensures .0 ∙ c .before .before .pos-of .ensures) (c .before .answer .ensures .1) _ (c .before .before .before .before .before .before .before .before .before .loop .inv .1 .1 .0) _ (c .go-back .ensures .0), c .go-back .ensures .1 ∙ c .before .before .before .before .before .before .before .visit .ensures .1 ∙ c .before .before .before .before .before .before .before .before .before .loop .inv .1 .1 .1)
 
-keep-row-moved-requires-3 : (t : ℕ) → keep-row-lts.Need-moved-requires-3 (keep-row-claims t) (keep-row-at t) keep-row.Post keep-row-Inv-loop keep-row-μ-loop
-keep-row-moved-requires-3 t c κs = tt
+keep-row-pos-of-requires-2 : (t : ℕ) → keep-row-lts.Need-pos-of-requires-2 (keep-row-claims t) (keep-row-at t) keep-row.Post keep-row-Inv-loop keep-row-μ-loop
+keep-row-pos-of-requires-2 t c κs = tt
+
+keep-row-pos-of-requires-3 : (t : ℕ) → keep-row-lts.Need-pos-of-requires-3 (keep-row-claims t) (keep-row-at t) keep-row.Post keep-row-Inv-loop keep-row-μ-loop
+keep-row-pos-of-requires-3 t c κs = tt
 
 keep-row-answer-requires-2 : (t : ℕ) → keep-row-lts.Need-answer-requires-2 (keep-row-claims t) (keep-row-at t) keep-row.Post keep-row-Inv-loop keep-row-μ-loop
 keep-row-answer-requires-2 t c κs = tt
 
 keep-row-go-back-requires-2 : (t : ℕ) → keep-row-lts.Need-go-back-requires-2 (keep-row-claims t) (keep-row-at t) keep-row.Post keep-row-Inv-loop keep-row-μ-loop
 keep-row-go-back-requires-2 t c κs =
-    let pre = c .before .before .before .before .before .before .before .before .before .before .before .before .before .before .before .pre .1 in
-    end-ready _ _ _ _ _ (pre .0) (pre .1 .0 .0) (pre .1 .0 .1) (pre .1 .1) (c .before .before .before .before .before .before .before .before .before .before .loop .inv .0) _ (keep-row-visited t (c .before .before .before .before .before .before .before)) (inr (sym (c .before .before .before .before .before .before .end-of .ensures) ∙ c .before .before .before .if3 .taken)) _ (c .answer2 .ensures .0) (c .answer2 .ensures .1) _ (c .before .moved3 .ensures)
+    let pre = c .before .before .before .before .before .before .before .before .before .before .before .before .before .before .pre .1 in
+    end-ready _ _ _ _ _ (pre .0) (pre .1 .0 .0) (pre .1 .0 .1) (pre .1 .1) (c .before .before .before .before .before .before .before .before .before .before .loop .inv .0) _ (keep-row-visited t (c .before .before .before .before .before .before .before .before)) (inr (sym (c .before .before .before .before .before .before .before .end-of .ensures) ∙ c .before .before .before .if3 .taken ∙ c .before .before .before .before .pos-of2 .ensures)) _ (c .answer2 .ensures .0 ∙ c .before .pos-of3 .ensures) (c .answer2 .ensures .1) _ (c .before .before .before .before .before .before .before .before .before .before .loop .inv .1 .1 .0)
 
 keep-row-returns-3 : (t : ℕ) → keep-row-lts.Need-returns-3 (keep-row-claims t) (keep-row-at t) keep-row.Post keep-row-Inv-loop keep-row-μ-loop
 keep-row-returns-3 t c =
-    let pre = c .before .before .before .before .before .before .before .before .before .before .before .before .before .before .before .before .pre .1 in
-    (ends _ _ _ _ _ (pre .0) (pre .1 .0 .0) (pre .1 .0 .1) (pre .1 .1) (c .before .before .before .before .before .before .before .before .before .before .before .loop .inv .0) _ (keep-row-visited t (c .before .before .before .before .before .before .before .before)) (inr (sym (c .before .before .before .before .before .before .before .end-of .ensures) ∙ c .before .before .before .before .if3 .taken)) _ (c .before .answer2 .ensures .0) (c .before .answer2 .ensures .1) _ (c .before .before .moved3 .ensures) _ (c .go-back2 .ensures .0), c .go-back2 .ensures .1 ∙ c .before .before .before .before .before .before .before .before .visit .ensures .1 ∙ c .before .before .before .before .before .before .before .before .before .before .before .loop .inv .1 .1)
+    let pre = c .before .before .before .before .before .before .before .before .before .before .before .before .before .before .before .pre .1 in
+    (ends _ _ _ _ _ (pre .0) (pre .1 .0 .0) (pre .1 .0 .1) (pre .1 .1) (c .before .before .before .before .before .before .before .before .before .before .before .loop .inv .0) _ (keep-row-visited t (c .before .before .before .before .before .before .before .before .before)) (inr (sym (c .before .before .before .before .before .before .before .before .end-of .ensures) ∙ c .before .before .before .before .if3 .taken ∙ c .before .before .before .before .before .pos-of2 .ensures)) _ (c .before .answer2 .ensures .0 ∙ c .before .before .pos-of3 .ensures) (c .before .answer2 .ensures .1) _ (c .before .before .before .before .before .before .before .before .before .before .before .loop .inv .1 .1 .0) _ (c .go-back2 .ensures .0), c .go-back2 .ensures .1 ∙ c .before .before .before .before .before .before .before .before .before .visit .ensures .1 ∙ c .before .before .before .before .before .before .before .before .before .before .before .loop .inv .1 .1 .1)
 
 keep-row-enter-in-place-requires : (t : ℕ) → keep-row-lts.Need-enter-in-place-requires (keep-row-claims t) (keep-row-at t) keep-row.Post keep-row-Inv-loop keep-row-μ-loop
 keep-row-enter-in-place-requires t c κs =
-    let pre = c .before .before .before .before .before .before .before .before .before .before .before .before .before .pre .1 in
-    (long _ _ _ _ _ (pre .0) (pre .1 .0 .0) (pre .1 .0 .1) (pre .1 .1) (c .before .before .before .before .before .before .before .before .loop .inv .0) _ (keep-row-visited t (c .before .before .before .before .before)), pre .0 .fit .allowance)
+    let pre = c .before .before .before .before .before .before .before .before .before .before .before .before .pre .1 in
+    (long _ _ _ _ _ (pre .0) (pre .1 .0 .0) (pre .1 .0 .1) (pre .1 .1) (c .before .before .before .before .before .before .before .before .loop .inv .0) _ (keep-row-visited t (c .before .before .before .before .before .before)), pre .0 .fit .allowance)
 
 keep-row-slice-aggregate-set-turns-2 : (t : ℕ) → keep-row-lts.Need-slice-aggregate-set-turns-2 (keep-row-claims t) (keep-row-at t) keep-row.Post keep-row-Inv-loop keep-row-μ-loop
 keep-row-slice-aggregate-set-turns-2 t c = refl
 
 keep-row-set-turns-requires-2 : (t : ℕ) → keep-row-lts.Need-set-turns-requires-2 (keep-row-claims t) (keep-row-at t) keep-row.Post keep-row-Inv-loop keep-row-μ-loop
 keep-row-set-turns-requires-2 t c κs =
-    let pre = c .before .before .before .before .before .before .before .before .before .before .before .before .before .before .before .before .pre .1 in
-    still-long _ _ _ _ _ (pre .0) (pre .1 .0 .0) (pre .1 .0 .1) (pre .1 .1) (c .before .before .before .before .before .before .before .before .before .before .before .loop .inv .0) _ (keep-row-visited t (c .before .before .before .before .before .before .before .before)) (c .before .before .enter-in-place .ensures .0)
+    let pre = c .before .before .before .before .before .before .before .before .before .before .before .before .before .before .before .pre .1 in
+    still-long _ _ _ _ _ (pre .0) (pre .1 .0 .0) (pre .1 .0 .1) (pre .1 .1) (c .before .before .before .before .before .before .before .before .before .before .before .loop .inv .0) _ (keep-row-visited t (c .before .before .before .before .before .before .before .before .before)) (c .before .before .enter-in-place .ensures .0)
 
 keep-row-mul-answer : (t : ℕ) → keep-row-lts.Need-mul-answer (keep-row-claims t) (keep-row-at t) keep-row.Post keep-row-Inv-loop keep-row-μ-loop
 keep-row-mul-answer t c =
@@ -147,67 +146,67 @@ keep-row-mul-answer t c =
 keep-row-add-answer : (t : ℕ) → keep-row-lts.Need-add-answer (keep-row-claims t) (keep-row-at t) keep-row.Post keep-row-Inv-loop keep-row-μ-loop
 keep-row-add-answer t c =
     let small = full-small (c .before .before .before .enter-in-place .ensures .0) in
-    let ends = c .before .before .before .before .before .before .before .before .end-of .ensures in
-    let visited = keep-row-visited t (c .before .before .before .before .before .before .before .before .before) in
-    let match = matched ends (visited .came .end-most) (c .before .before .before .before .before .before .before .if1 .left) (c .before .before .before .before .before .before .if2 .left) in
-    let less = let q : endIn (c .before .before .before .before .before .before .before .before .before .visit .result) < STOPPED = omega arith in q in
+    let ends = c .before .before .before .before .before .before .before .before .before .end-of .ensures in
+    let visited = keep-row-visited t (c .before .before .before .before .before .before .before .before .before .before) in
+    let match = matched ends (visited .came .end-most) (c .before .before .before .before .before .before .before .before .if1 .left) (c .before .before .before .before .before .before .before .if2 .left) in
+    let less = let q : endIn (c .before .before .before .before .before .before .before .before .before .before .visit .result) < STOPPED = omega arith in q in
     let inside = visited .came .end-in less in
-    omega (arith, small, inside, ends, c .before .before .before .before .before .before .before .before .before .before .before .before .before .before .before .before .before .pre .1 .0 .fit .short)
+    omega (arith, small, inside, ends, c .before .before .before .before .before .before .before .before .before .before .before .before .before .before .before .before .pre .1 .0 .fit .short)
 
 keep-row-answer-requires-3 : (t : ℕ) → keep-row-lts.Need-answer-requires-3 (keep-row-claims t) (keep-row-at t) keep-row.Post keep-row-Inv-loop keep-row-μ-loop
 keep-row-answer-requires-3 t c κs = tt
 
 keep-row-returns-4 : (t : ℕ) → keep-row-lts.Need-returns-4 (keep-row-claims t) (keep-row-at t) keep-row.Post keep-row-Inv-loop keep-row-μ-loop
 keep-row-returns-4 t c =
-    let pre = c .before .before .before .before .before .before .before .before .before .before .before .before .before .before .before .before .before .before .pre .1 in
-    let match = matched (c .before .before .before .before .before .before .before .before .before .end-of .ensures) ((keep-row-visited t (c .before .before .before .before .before .before .before .before .before .before)) .came .end-most) (c .before .before .before .before .before .before .before .before .if1 .left) (c .before .before .before .before .before .before .before .if2 .left) in
-    let less = let e = c .before .before .before .before .before .before .before .before .before .end-of .ensures in let q : endIn (c .before .before .before .before .before .before .before .before .before .before .visit .result) < STOPPED = omega arith in q in
-    let other = let q : endIn (c .before .before .before .before .before .before .before .before .before .before .visit .result) ≢ c .before .before .before .before .before .before .before .before .before .before .before .before .before .loop .at = λ e. c .before .before .before .before .before .before .if3 .left (c .before .before .before .before .before .before .before .before .before .end-of .ensures ∙ e) in q in
-    (full _ _ _ _ _ (pre .0) (pre .1 .0 .0) (pre .1 .0 .1) (pre .1 .1) (c .before .before .before .before .before .before .before .before .before .before .before .before .before .loop .inv .0) _ (keep-row-visited t (c .before .before .before .before .before .before .before .before .before .before)) less other (c .before .before .before .before .enter-in-place .ensures .0) (c .before .before .before .if4 .taken) (c .before .set-turns2 .ensures) _ (c .answer3 .ensures .0) (c .answer3 .ensures .1 ∙ ap (λ n. c .before .before .before .before .enter-in-place .result * 4096 + n) (c .before .before .before .before .before .before .before .before .before .end-of .ensures)), c .before .before .before .before .enter-in-place .ensures .1 ∙ c .before .before .before .before .before .before .before .before .before .before .visit .ensures .1 ∙ c .before .before .before .before .before .before .before .before .before .before .before .before .before .loop .inv .1 .1)
+    let pre = c .before .before .before .before .before .before .before .before .before .before .before .before .before .before .before .before .before .pre .1 in
+    let match = matched (c .before .before .before .before .before .before .before .before .before .before .end-of .ensures) ((keep-row-visited t (c .before .before .before .before .before .before .before .before .before .before .before)) .came .end-most) (c .before .before .before .before .before .before .before .before .before .if1 .left) (c .before .before .before .before .before .before .before .before .if2 .left) in
+    let less = let e = c .before .before .before .before .before .before .before .before .before .before .end-of .ensures in let q : endIn (c .before .before .before .before .before .before .before .before .before .before .before .visit .result) < STOPPED = omega arith in q in
+    let other = let q : endIn (c .before .before .before .before .before .before .before .before .before .before .before .visit .result) ≢ posIn (c .before .before .before .before .before .before .before .before .before .before .before .before .before .loop .here) = λ e. c .before .before .before .before .before .before .if3 .left (c .before .before .before .before .before .before .before .before .before .before .end-of .ensures ∙ e ∙ sym (c .before .before .before .before .before .before .before .pos-of2 .ensures)) in q in
+    (full _ _ _ _ _ (pre .0) (pre .1 .0 .0) (pre .1 .0 .1) (pre .1 .1) (c .before .before .before .before .before .before .before .before .before .before .before .before .before .loop .inv .0) _ (keep-row-visited t (c .before .before .before .before .before .before .before .before .before .before .before)) less other (c .before .before .before .before .enter-in-place .ensures .0) (c .before .before .before .if4 .taken) (c .before .set-turns2 .ensures) _ (c .answer3 .ensures .0) (c .answer3 .ensures .1 ∙ ap (λ n. c .before .before .before .before .enter-in-place .result * 4096 + n) (c .before .before .before .before .before .before .before .before .before .before .end-of .ensures)), c .before .before .before .before .enter-in-place .ensures .1 ∙ c .before .before .before .before .before .before .before .before .before .before .before .visit .ensures .1 ∙ c .before .before .before .before .before .before .before .before .before .before .before .before .before .loop .inv .1 .1 .1)
 
 -- The own next visit is counted.
 keep-row-counted : (t : ℕ) (c : keep-row-lts.Else4 (keep-row-claims t) (keep-row-at t) keep-row.Post keep-row-Inv-loop keep-row-μ-loop)
-    → let words = c .before .before .before .before .before .before .before .visit .last .1 .1 .1 .0 .now in
-    (madeIn words < allowanceIn (lent [] (c .before .before .before .before .before .before .before .before .before .before .before .before .before .before .before .args .given .now))) × (c .before .enter-in-place .last .1 .0 .now ≡ set words 2043 (madeIn words + 1))
-keep-row-counted t c = counts (lent [] (c .before .before .before .before .before .before .before .before .before .before .before .before .before .before .before .args .given .now)) _ _ _ (c .before .enter-in-place .ensures .0) (let z = c .if4 .left in let q : c .before .enter-in-place .result ≡ 0 = omega arith in q)
+    → let words = c .before .before .before .before .before .before .before .before .visit .last .1 .1 .1 .0 .now in
+    (madeIn words < allowanceIn (lent [] (c .before .before .before .before .before .before .before .before .before .before .before .before .before .before .args .given .now))) × (c .before .enter-in-place .last .1 .0 .now ≡ set words 2043 (madeIn words + 1))
+keep-row-counted t c = counts (lent [] (c .before .before .before .before .before .before .before .before .before .before .before .before .before .before .args .given .now)) _ _ _ (c .before .enter-in-place .ensures .0) (let z = c .if4 .left in let q : c .before .enter-in-place .result ≡ 0 = omega arith in q)
 
 keep-row-kept-word-requires : (t : ℕ) → keep-row-lts.Need-kept-word-requires (keep-row-claims t) (keep-row-at t) keep-row.Post keep-row-Inv-loop keep-row-μ-loop
 keep-row-kept-word-requires t c κs =
-    let pre = c .before .before .before .before .before .before .before .before .before .before .before .before .before .before .before .before .before .pre .1 in
-    let match = matched (c .before .before .before .before .before .before .before .before .end-of .ensures) ((keep-row-visited t (c .before .before .before .before .before .before .before .before .before)) .came .end-most) (c .before .before .before .before .before .before .before .if1 .left) (c .before .before .before .before .before .before .if2 .left) in
-    let less = let e = c .before .before .before .before .before .before .before .before .end-of .ensures in let q : endIn (c .before .before .before .before .before .before .before .before .before .visit .result) < STOPPED = omega arith in q in
-    let other = let q : endIn (c .before .before .before .before .before .before .before .before .before .visit .result) ≢ c .before .before .before .before .before .before .before .before .before .before .before .before .loop .at = λ e. c .before .before .before .before .before .if3 .left (c .before .before .before .before .before .before .before .before .end-of .ensures ∙ e) in q in
+    let pre = c .before .before .before .before .before .before .before .before .before .before .before .before .before .before .before .before .pre .1 in
+    let match = matched (c .before .before .before .before .before .before .before .before .before .end-of .ensures) ((keep-row-visited t (c .before .before .before .before .before .before .before .before .before .before)) .came .end-most) (c .before .before .before .before .before .before .before .before .if1 .left) (c .before .before .before .before .before .before .before .if2 .left) in
+    let less = let e = c .before .before .before .before .before .before .before .before .before .end-of .ensures in let q : endIn (c .before .before .before .before .before .before .before .before .before .before .visit .result) < STOPPED = omega arith in q in
+    let other = let q : endIn (c .before .before .before .before .before .before .before .before .before .before .visit .result) ≢ posIn (c .before .before .before .before .before .before .before .before .before .before .before .before .loop .here) = λ e. c .before .before .before .before .before .if3 .left (c .before .before .before .before .before .before .before .before .before .end-of .ensures ∙ e ∙ sym (c .before .before .before .before .before .before .pos-of2 .ensures)) in q in
     let counted = keep-row-counted t (c .before .before) in
-    rw (c .before .before .before .before .before .before .before .before .end-of .ensures, counted .1) (look-room _ _ _ _ _ (pre .0) (pre .1 .0 .0) (pre .1 .0 .1) (pre .1 .1) (c .before .before .before .before .before .before .before .before .before .before .before .before .loop .inv .0) _ (keep-row-visited t (c .before .before .before .before .before .before .before .before .before)) less other (counted .0))
+    rw (c .before .before .before .before .before .before .before .before .before .end-of .ensures, counted .1) (look-room _ _ _ _ _ (pre .0) (pre .1 .0 .0) (pre .1 .0 .1) (pre .1 .1) (c .before .before .before .before .before .before .before .before .before .before .before .before .loop .inv .0) _ (keep-row-visited t (c .before .before .before .before .before .before .before .before .before .before)) less other (counted .0))
 
 -- What is kept for it is looked up, and the words stay.
 keep-row-looked : (t : ℕ) (c : keep-row-lts.After-kept-word (keep-row-claims t) (keep-row-at t) keep-row.Post keep-row-Inv-loop keep-row-μ-loop)
-    → let args = c .before .before .before .before .before .before .before .before .before .before .before .before .before .before .before .before .before .before .args in
-    let words = c .before .before .before .before .before .before .before .before .before .before .visit .last .1 .1 .1 .0 .now in
+    → let args = c .before .before .before .before .before .before .before .before .before .before .before .before .before .before .before .before .before .args in
+    let words = c .before .before .before .before .before .before .before .before .before .before .before .visit .last .1 .1 .1 .0 .now in
     let counted = set words 2043 (madeIn words + 1) in
-    (c .kept-word .last .1 .1 .0 .now ≡ counted) × (c .kept-word .result ≡ getD counted (placeIn (lent (args .table .now .now) (args .given .now)) (args .line .now .now) (args .node) (endIn (c .before .before .before .before .before .before .before .before .before .before .visit .result))) 0)
+    (c .kept-word .last .1 .1 .0 .now ≡ counted) × (c .kept-word .result ≡ getD counted (placeIn (lent (args .table .now .now) (args .given .now)) (args .line .now .now) (args .node) (endIn (c .before .before .before .before .before .before .before .before .before .before .before .visit .result))) 0)
 keep-row-looked t c =
     let counted = keep-row-counted t (c .before .before .before) in
-    (ap (λ r. r .now) (c .kept-word .ensures .1) ∙ counted .1, rw (c .before .before .before .before .before .before .before .before .before .end-of .ensures, counted .1) at (c .kept-word .ensures .0))
+    (ap (λ r. r .now) (c .kept-word .ensures .1) ∙ counted .1, rw (c .before .before .before .before .before .before .before .before .before .before .end-of .ensures, counted .1) at (c .kept-word .ensures .0))
 
 keep-row-kept-answer-requires : (t : ℕ) → keep-row-lts.Need-kept-answer-requires (keep-row-claims t) (keep-row-at t) keep-row.Post keep-row-Inv-loop keep-row-μ-loop
 keep-row-kept-answer-requires t c κs =
-    let pre = c .before .before .before .before .before .before .before .before .before .before .before .before .before .before .before .before .before .before .before .before .before .pre .1 in
-    let match = matched (c .before .before .before .before .before .before .before .before .before .before .before .before .end-of .ensures) ((keep-row-visited t (c .before .before .before .before .before .before .before .before .before .before .before .before .before)) .came .end-most) (c .before .before .before .before .before .before .before .before .before .before .before .if1 .left) (c .before .before .before .before .before .before .before .before .before .before .if2 .left) in
-    let less = let e = c .before .before .before .before .before .before .before .before .before .before .before .before .end-of .ensures in let q : endIn (c .before .before .before .before .before .before .before .before .before .before .before .before .before .visit .result) < STOPPED = omega arith in q in
-    let other = let q : endIn (c .before .before .before .before .before .before .before .before .before .before .before .before .before .visit .result) ≢ c .before .before .before .before .before .before .before .before .before .before .before .before .before .before .before .before .loop .at = λ e. c .before .before .before .before .before .before .before .before .before .if3 .left (c .before .before .before .before .before .before .before .before .before .before .before .before .end-of .ensures ∙ e) in q in
+    let pre = c .before .before .before .before .before .before .before .before .before .before .before .before .before .before .before .before .before .before .before .before .pre .1 in
+    let match = matched (c .before .before .before .before .before .before .before .before .before .before .before .before .before .end-of .ensures) ((keep-row-visited t (c .before .before .before .before .before .before .before .before .before .before .before .before .before .before)) .came .end-most) (c .before .before .before .before .before .before .before .before .before .before .before .before .if1 .left) (c .before .before .before .before .before .before .before .before .before .before .before .if2 .left) in
+    let less = let e = c .before .before .before .before .before .before .before .before .before .before .before .before .before .end-of .ensures in let q : endIn (c .before .before .before .before .before .before .before .before .before .before .before .before .before .before .visit .result) < STOPPED = omega arith in q in
+    let other = let q : endIn (c .before .before .before .before .before .before .before .before .before .before .before .before .before .before .visit .result) ≢ posIn (c .before .before .before .before .before .before .before .before .before .before .before .before .before .before .before .before .loop .here) = λ e. c .before .before .before .before .before .before .before .before .before .if3 .left (c .before .before .before .before .before .before .before .before .before .before .before .before .before .end-of .ensures ∙ e ∙ sym (c .before .before .before .before .before .before .before .before .before .before .pos-of2 .ensures)) in q in
     let looked = keep-row-looked t (c .before .before .before) in
-    (rw (c .before .before .before .before .before .before .before .before .before .before .before .before .end-of .ensures, looked .0) (look-room _ _ _ _ _ (pre .0) (pre .1 .0 .0) (pre .1 .0 .1) (pre .1 .1) (c .before .before .before .before .before .before .before .before .before .before .before .before .before .before .before .before .loop .inv .0) _ (keep-row-visited t (c .before .before .before .before .before .before .before .before .before .before .before .before .before)) less other (keep-row-counted t (c .before .before .before .before .before .before) .0)), omega (arith, c .before .before .if5 .taken))
+    (rw (c .before .before .before .before .before .before .before .before .before .before .before .before .before .end-of .ensures, looked .0) (look-room _ _ _ _ _ (pre .0) (pre .1 .0 .0) (pre .1 .0 .1) (pre .1 .1) (c .before .before .before .before .before .before .before .before .before .before .before .before .before .before .before .before .loop .inv .0) _ (keep-row-visited t (c .before .before .before .before .before .before .before .before .before .before .before .before .before .before)) less other (keep-row-counted t (c .before .before .before .before .before .before) .0)), omega (arith, c .before .before .if5 .taken))
 
 -- It is read, and the words stay.
 keep-row-found : (t : ℕ) (c : keep-row-lts.After-kept-answer (keep-row-claims t) (keep-row-at t) keep-row.Post keep-row-Inv-loop keep-row-μ-loop)
-    → let args = c .before .before .before .before .before .before .before .before .before .before .before .before .before .before .before .before .before .before .before .before .before .before .args in
-    let words = c .before .before .before .before .before .before .before .before .before .before .before .before .before .before .visit .last .1 .1 .1 .0 .now in
+    → let args = c .before .before .before .before .before .before .before .before .before .before .before .before .before .before .before .before .before .before .before .before .before .args in
+    let words = c .before .before .before .before .before .before .before .before .before .before .before .before .before .before .before .visit .last .1 .1 .1 .0 .now in
     let counted = set words 2043 (madeIn words + 1) in
-    (c .kept-answer .last .1 .1 .0 .now ≡ counted) × KeptAnswer (lent [] (args .given .now)) (args .line .now .now) counted (args .node) (endIn (c .before .before .before .before .before .before .before .before .before .before .before .before .before .before .visit .result)) (c .before .before .before .before .kept-word .result) (c .kept-answer .result)
+    (c .kept-answer .last .1 .1 .0 .now ≡ counted) × KeptAnswer (lent [] (args .given .now)) (args .line .now .now) counted (args .node) (endIn (c .before .before .before .before .before .before .before .before .before .before .before .before .before .before .before .visit .result)) (c .before .before .before .before .kept-word .result) (c .kept-answer .result)
 keep-row-found t c =
     let looked = keep-row-looked t (c .before .before .before .before) in
-    (ap (λ r. r .now) (c .kept-answer .ensures .1) ∙ looked .0, rw (c .before .before .before .before .before .before .before .before .before .before .before .before .before .end-of .ensures, looked .0) at (c .kept-answer .ensures .0))
+    (ap (λ r. r .now) (c .kept-answer .ensures .1) ∙ looked .0, rw (c .before .before .before .before .before .before .before .before .before .before .before .before .before .before .end-of .ensures, looked .0) at (c .kept-answer .ensures .0))
 
 keep-row-slice-aggregate-joined : (t : ℕ) → keep-row-lts.Need-slice-aggregate-joined (keep-row-claims t) (keep-row-at t) keep-row.Post keep-row-Inv-loop keep-row-μ-loop
 keep-row-slice-aggregate-joined t c = refl
@@ -223,76 +222,90 @@ keep-row-list-of-requires-2 t c κs = tt
 
 keep-row-joined-requires : (t : ℕ) → keep-row-lts.Need-joined-requires (keep-row-claims t) (keep-row-at t) keep-row.Post keep-row-Inv-loop keep-row-μ-loop
 keep-row-joined-requires t c κs =
-    let pre = c .before .before .before .before .before .before .before .before .before .before .before .before .before .before .before .before .before .before .before .before .before .before .before .before .before .before .pre .1 in
-    let match = matched (c .before .before .before .before .before .before .before .before .before .before .before .before .before .before .before .before .before .end-of .ensures) ((keep-row-visited t (c .before .before .before .before .before .before .before .before .before .before .before .before .before .before .before .before .before .before)) .came .end-most) (c .before .before .before .before .before .before .before .before .before .before .before .before .before .before .before .before .if1 .left) (c .before .before .before .before .before .before .before .before .before .before .before .before .before .before .before .if2 .left) in
-    let less = let e = c .before .before .before .before .before .before .before .before .before .before .before .before .before .before .before .before .before .end-of .ensures in let q : endIn (c .before .before .before .before .before .before .before .before .before .before .before .before .before .before .before .before .before .before .visit .result) < STOPPED = omega arith in q in
-    let other = let q : endIn (c .before .before .before .before .before .before .before .before .before .before .before .before .before .before .before .before .before .before .visit .result) ≢ c .before .before .before .before .before .before .before .before .before .before .before .before .before .before .before .before .before .before .before .before .before .loop .at = λ e. c .before .before .before .before .before .before .before .before .before .before .before .before .before .before .if3 .left (c .before .before .before .before .before .before .before .before .before .before .before .before .before .before .before .before .before .end-of .ensures ∙ e) in q in
+    let pre = c .before .before .before .before .before .before .before .before .before .before .before .before .before .before .before .before .before .before .before .before .before .before .before .before .before .pre .1 in
+    let match = matched (c .before .before .before .before .before .before .before .before .before .before .before .before .before .before .before .before .before .before .end-of .ensures) ((keep-row-visited t (c .before .before .before .before .before .before .before .before .before .before .before .before .before .before .before .before .before .before .before)) .came .end-most) (c .before .before .before .before .before .before .before .before .before .before .before .before .before .before .before .before .before .if1 .left) (c .before .before .before .before .before .before .before .before .before .before .before .before .before .before .before .before .if2 .left) in
+    let less = let e = c .before .before .before .before .before .before .before .before .before .before .before .before .before .before .before .before .before .before .end-of .ensures in let q : endIn (c .before .before .before .before .before .before .before .before .before .before .before .before .before .before .before .before .before .before .before .visit .result) < STOPPED = omega arith in q in
+    let other = let q : endIn (c .before .before .before .before .before .before .before .before .before .before .before .before .before .before .before .before .before .before .before .visit .result) ≢ posIn (c .before .before .before .before .before .before .before .before .before .before .before .before .before .before .before .before .before .before .before .before .before .loop .here) = λ e. c .before .before .before .before .before .before .before .before .before .before .before .before .before .before .if3 .left (c .before .before .before .before .before .before .before .before .before .before .before .before .before .before .before .before .before .before .end-of .ensures ∙ e ∙ sym (c .before .before .before .before .before .before .before .before .before .before .before .before .before .before .before .pos-of2 .ensures)) in q in
     let found = keep-row-found t (c .before .before .before .before) in
-    rw (found .0) (join-ready _ _ _ _ _ (pre .0) (pre .1 .0 .0) (pre .1 .0 .1) (pre .1 .1) (c .before .before .before .before .before .before .before .before .before .before .before .before .before .before .before .before .before .before .before .before .before .loop .inv .0) _ (keep-row-visited t (c .before .before .before .before .before .before .before .before .before .before .before .before .before .before .before .before .before .before)) less other (keep-row-counted t (c .before .before .before .before .before .before .before .before .before .before .before) .0) _ (keep-row-looked t (c .before .before .before .before .before .before .before .before) .1) (c .before .before .before .before .before .before .before .if5 .taken) _ (found .1) _ _ (c .before .list-of .ensures) (c .list-of2 .ensures))
-
-keep-row-moved-requires-4 : (t : ℕ) → keep-row-lts.Need-moved-requires-4 (keep-row-claims t) (keep-row-at t) keep-row.Post keep-row-Inv-loop keep-row-μ-loop
-keep-row-moved-requires-4 t c κs = tt
+    rw (found .0) (join-ready _ _ _ _ _ (pre .0) (pre .1 .0 .0) (pre .1 .0 .1) (pre .1 .1) (c .before .before .before .before .before .before .before .before .before .before .before .before .before .before .before .before .before .before .before .before .before .loop .inv .0) _ (keep-row-visited t (c .before .before .before .before .before .before .before .before .before .before .before .before .before .before .before .before .before .before .before)) less other (keep-row-counted t (c .before .before .before .before .before .before .before .before .before .before .before) .0) _ (keep-row-looked t (c .before .before .before .before .before .before .before .before) .1) (c .before .before .before .before .before .before .before .if5 .taken) _ (found .1) _ _ (c .before .list-of .ensures) (c .list-of2 .ensures))
 
 keep-row-go-back-requires-3 : (t : ℕ) → keep-row-lts.Need-go-back-requires-3 (keep-row-claims t) (keep-row-at t) keep-row.Post keep-row-Inv-loop keep-row-μ-loop
 keep-row-go-back-requires-3 t c κs =
-    let pre = c .before .before .before .before .before .before .before .before .before .before .before .before .before .before .before .before .before .before .before .before .before .before .before .before .before .before .before .before .before .pre .1 in
+    let pre = c .before .before .before .before .before .before .before .before .before .before .before .before .before .before .before .before .before .before .before .before .before .before .before .before .before .before .before .pre .1 in
     let match = matched (c .before .before .before .before .before .before .before .before .before .before .before .before .before .before .before .before .before .before .before .before .end-of .ensures) ((keep-row-visited t (c .before .before .before .before .before .before .before .before .before .before .before .before .before .before .before .before .before .before .before .before .before)) .came .end-most) (c .before .before .before .before .before .before .before .before .before .before .before .before .before .before .before .before .before .before .before .if1 .left) (c .before .before .before .before .before .before .before .before .before .before .before .before .before .before .before .before .before .before .if2 .left) in
     let less = let e = c .before .before .before .before .before .before .before .before .before .before .before .before .before .before .before .before .before .before .before .before .end-of .ensures in let q : endIn (c .before .before .before .before .before .before .before .before .before .before .before .before .before .before .before .before .before .before .before .before .before .visit .result) < STOPPED = omega arith in q in
-    let other = let q : endIn (c .before .before .before .before .before .before .before .before .before .before .before .before .before .before .before .before .before .before .before .before .before .visit .result) ≢ c .before .before .before .before .before .before .before .before .before .before .before .before .before .before .before .before .before .before .before .before .before .before .before .before .loop .at = λ e. c .before .before .before .before .before .before .before .before .before .before .before .before .before .before .before .before .before .if3 .left (c .before .before .before .before .before .before .before .before .before .before .before .before .before .before .before .before .before .before .before .before .end-of .ensures ∙ e) in q in
-    let found = keep-row-found t (c .before .before .before .before .before .before .before) in
-    found-ready _ _ _ _ _ (pre .0) (pre .1 .0 .0) (pre .1 .0 .1) (pre .1 .1) (c .before .before .before .before .before .before .before .before .before .before .before .before .before .before .before .before .before .before .before .before .before .before .before .before .loop .inv .0) _ (keep-row-visited t (c .before .before .before .before .before .before .before .before .before .before .before .before .before .before .before .before .before .before .before .before .before)) less other (keep-row-counted t (c .before .before .before .before .before .before .before .before .before .before .before .before .before .before) .0) _ (keep-row-looked t (c .before .before .before .before .before .before .before .before .before .before .before) .1) (c .before .before .before .before .before .before .before .before .before .before .if5 .taken) _ (found .1) _ (c .before .before .joined .ensures .0 ∙ c .before .before .before .before .before .end-of2 .ensures) (rw (found .0, c .before .before .before .before .list-of .ensures, c .before .before .before .list-of2 .ensures) at (c .before .before .joined .ensures .1)) _ (c .moved4 .ensures)
+    let other = let q : endIn (c .before .before .before .before .before .before .before .before .before .before .before .before .before .before .before .before .before .before .before .before .before .visit .result) ≢ posIn (c .before .before .before .before .before .before .before .before .before .before .before .before .before .before .before .before .before .before .before .before .before .before .before .loop .here) = λ e. c .before .before .before .before .before .before .before .before .before .before .before .before .before .before .before .before .if3 .left (c .before .before .before .before .before .before .before .before .before .before .before .before .before .before .before .before .before .before .before .before .end-of .ensures ∙ e ∙ sym (c .before .before .before .before .before .before .before .before .before .before .before .before .before .before .before .before .before .pos-of2 .ensures)) in q in
+    let found = keep-row-found t (c .before .before .before .before .before .before) in
+    found-ready _ _ _ _ _ (pre .0) (pre .1 .0 .0) (pre .1 .0 .1) (pre .1 .1) (c .before .before .before .before .before .before .before .before .before .before .before .before .before .before .before .before .before .before .before .before .before .before .before .loop .inv .0) _ (keep-row-visited t (c .before .before .before .before .before .before .before .before .before .before .before .before .before .before .before .before .before .before .before .before .before)) less other (keep-row-counted t (c .before .before .before .before .before .before .before .before .before .before .before .before .before) .0) _ (keep-row-looked t (c .before .before .before .before .before .before .before .before .before .before) .1) (c .before .before .before .before .before .before .before .before .before .if5 .taken) _ (found .1) _ (c .before .joined .ensures .0 ∙ c .before .before .before .before .end-of2 .ensures) (rw (found .0, c .before .before .before .list-of .ensures, c .before .before .list-of2 .ensures) at (c .before .joined .ensures .1)) _ (c .before .before .before .before .before .before .before .before .before .before .before .before .before .before .before .before .before .before .before .before .before .before .before .loop .inv .1 .1 .0)
 
 keep-row-returns-5 : (t : ℕ) → keep-row-lts.Need-returns-5 (keep-row-claims t) (keep-row-at t) keep-row.Post keep-row-Inv-loop keep-row-μ-loop
 keep-row-returns-5 t c =
-    let pre = c .before .before .before .before .before .before .before .before .before .before .before .before .before .before .before .before .before .before .before .before .before .before .before .before .before .before .before .before .before .before .pre .1 in
+    let pre = c .before .before .before .before .before .before .before .before .before .before .before .before .before .before .before .before .before .before .before .before .before .before .before .before .before .before .before .before .pre .1 in
     let match = matched (c .before .before .before .before .before .before .before .before .before .before .before .before .before .before .before .before .before .before .before .before .before .end-of .ensures) ((keep-row-visited t (c .before .before .before .before .before .before .before .before .before .before .before .before .before .before .before .before .before .before .before .before .before .before)) .came .end-most) (c .before .before .before .before .before .before .before .before .before .before .before .before .before .before .before .before .before .before .before .before .if1 .left) (c .before .before .before .before .before .before .before .before .before .before .before .before .before .before .before .before .before .before .before .if2 .left) in
     let less = let e = c .before .before .before .before .before .before .before .before .before .before .before .before .before .before .before .before .before .before .before .before .before .end-of .ensures in let q : endIn (c .before .before .before .before .before .before .before .before .before .before .before .before .before .before .before .before .before .before .before .before .before .before .visit .result) < STOPPED = omega arith in q in
-    let other = let q : endIn (c .before .before .before .before .before .before .before .before .before .before .before .before .before .before .before .before .before .before .before .before .before .before .visit .result) ≢ c .before .before .before .before .before .before .before .before .before .before .before .before .before .before .before .before .before .before .before .before .before .before .before .before .before .loop .at = λ e. c .before .before .before .before .before .before .before .before .before .before .before .before .before .before .before .before .before .before .if3 .left (c .before .before .before .before .before .before .before .before .before .before .before .before .before .before .before .before .before .before .before .before .before .end-of .ensures ∙ e) in q in
-    let found = keep-row-found t (c .before .before .before .before .before .before .before .before) in
-    (found-ends _ _ _ _ _ (pre .0) (pre .1 .0 .0) (pre .1 .0 .1) (pre .1 .1) (c .before .before .before .before .before .before .before .before .before .before .before .before .before .before .before .before .before .before .before .before .before .before .before .before .before .loop .inv .0) _ (keep-row-visited t (c .before .before .before .before .before .before .before .before .before .before .before .before .before .before .before .before .before .before .before .before .before .before)) less other (keep-row-counted t (c .before .before .before .before .before .before .before .before .before .before .before .before .before .before .before) .0) _ (keep-row-looked t (c .before .before .before .before .before .before .before .before .before .before .before .before) .1) (c .before .before .before .before .before .before .before .before .before .before .before .if5 .taken) _ (found .1) _ (c .before .before .before .joined .ensures .0 ∙ c .before .before .before .before .before .before .end-of2 .ensures) (rw (found .0, c .before .before .before .before .before .list-of .ensures, c .before .before .before .before .list-of2 .ensures) at (c .before .before .before .joined .ensures .1)) _ (c .before .moved4 .ensures) _ (c .go-back3 .ensures .0), c .go-back3 .ensures .1 ∙ ap (λ r. r .name) (c .before .before .before .before .before .before .before .before .kept-answer .ensures .1) ∙ ap (λ r. r .name) (c .before .before .before .before .before .before .before .before .before .before .before .before .kept-word .ensures .1) ∙ c .before .before .before .before .before .before .before .before .before .before .before .before .before .before .before .before .enter-in-place .ensures .1 ∙ c .before .before .before .before .before .before .before .before .before .before .before .before .before .before .before .before .before .before .before .before .before .before .visit .ensures .1 ∙ c .before .before .before .before .before .before .before .before .before .before .before .before .before .before .before .before .before .before .before .before .before .before .before .before .before .loop .inv .1 .1)
+    let other = let q : endIn (c .before .before .before .before .before .before .before .before .before .before .before .before .before .before .before .before .before .before .before .before .before .before .visit .result) ≢ posIn (c .before .before .before .before .before .before .before .before .before .before .before .before .before .before .before .before .before .before .before .before .before .before .before .before .loop .here) = λ e. c .before .before .before .before .before .before .before .before .before .before .before .before .before .before .before .before .before .if3 .left (c .before .before .before .before .before .before .before .before .before .before .before .before .before .before .before .before .before .before .before .before .before .end-of .ensures ∙ e ∙ sym (c .before .before .before .before .before .before .before .before .before .before .before .before .before .before .before .before .before .before .pos-of2 .ensures)) in q in
+    let found = keep-row-found t (c .before .before .before .before .before .before .before) in
+    (found-ends _ _ _ _ _ (pre .0) (pre .1 .0 .0) (pre .1 .0 .1) (pre .1 .1) (c .before .before .before .before .before .before .before .before .before .before .before .before .before .before .before .before .before .before .before .before .before .before .before .before .loop .inv .0) _ (keep-row-visited t (c .before .before .before .before .before .before .before .before .before .before .before .before .before .before .before .before .before .before .before .before .before .before)) less other (keep-row-counted t (c .before .before .before .before .before .before .before .before .before .before .before .before .before .before) .0) _ (keep-row-looked t (c .before .before .before .before .before .before .before .before .before .before .before) .1) (c .before .before .before .before .before .before .before .before .before .before .if5 .taken) _ (found .1) _ (c .before .before .joined .ensures .0 ∙ c .before .before .before .before .before .end-of2 .ensures) (rw (found .0, c .before .before .before .before .list-of .ensures, c .before .before .before .list-of2 .ensures) at (c .before .before .joined .ensures .1)) _ (c .before .before .before .before .before .before .before .before .before .before .before .before .before .before .before .before .before .before .before .before .before .before .before .before .loop .inv .1 .1 .0) _ (c .go-back3 .ensures .0), c .go-back3 .ensures .1 ∙ ap (λ r. r .name) (c .before .before .before .before .before .before .before .kept-answer .ensures .1) ∙ ap (λ r. r .name) (c .before .before .before .before .before .before .before .before .before .before .before .kept-word .ensures .1) ∙ c .before .before .before .before .before .before .before .before .before .before .before .before .before .before .before .enter-in-place .ensures .1 ∙ c .before .before .before .before .before .before .before .before .before .before .before .before .before .before .before .before .before .before .before .before .before .before .visit .ensures .1 ∙ c .before .before .before .before .before .before .before .before .before .before .before .before .before .before .before .before .before .before .before .before .before .before .before .before .loop .inv .1 .1 .1)
+
+keep-row-index-1-turns : (t : ℕ) → keep-row-lts.Need-index-1-turns (keep-row-claims t) (keep-row-at t) keep-row.Post keep-row-Inv-loop keep-row-μ-loop
+keep-row-index-1-turns t c =
+    let pre = c .before .before .before .before .before .before .before .before .before .before .before .before .before .before .before .before .before .before .pre .1 in
+    let match = matched (c .before .before .before .before .before .before .before .before .before .before .before .end-of .ensures) ((keep-row-visited t (c .before .before .before .before .before .before .before .before .before .before .before .before)) .came .end-most) (c .before .before .before .before .before .before .before .before .before .before .if1 .left) (c .before .before .before .before .before .before .before .before .before .if2 .left) in
+    let less = let e = c .before .before .before .before .before .before .before .before .before .before .before .end-of .ensures in let q : endIn (c .before .before .before .before .before .before .before .before .before .before .before .before .visit .result) < STOPPED = omega arith in q in
+    let other = let q : endIn (c .before .before .before .before .before .before .before .before .before .before .before .before .visit .result) ≢ posIn (c .before .before .before .before .before .before .before .before .before .before .before .before .before .before .loop .here) = λ e. c .before .before .before .before .before .before .before .if3 .left (c .before .before .before .before .before .before .before .before .before .before .before .end-of .ensures ∙ e ∙ sym (c .before .before .before .before .before .before .before .before .pos-of2 .ensures)) in q in
+    rw (keep-row-looked t (c .before) .0) (omega (arith, look-room _ _ _ _ _ (pre .0) (pre .1 .0 .0) (pre .1 .0 .1) (pre .1 .1) (c .before .before .before .before .before .before .before .before .before .before .before .before .before .before .loop .inv .0) _ (keep-row-visited t (c .before .before .before .before .before .before .before .before .before .before .before .before)) less other (keep-row-counted t (c .before .before .before .before) .0) .room))
 
 keep-row-add-turns : (t : ℕ) → keep-row-lts.Need-add-turns (keep-row-claims t) (keep-row-at t) keep-row.Post keep-row-Inv-loop keep-row-μ-loop
 keep-row-add-turns t c =
     let pre = c .before .before .before .before .before .before .before .before .before .before .before .before .before .before .before .before .before .before .before .pre .1 in
-    let match = matched (c .before .before .before .before .before .before .before .before .before .before .end-of .ensures) ((keep-row-visited t (c .before .before .before .before .before .before .before .before .before .before .before)) .came .end-most) (c .before .before .before .before .before .before .before .before .before .if1 .left) (c .before .before .before .before .before .before .before .before .if2 .left) in
-    let less = let e = c .before .before .before .before .before .before .before .before .before .before .end-of .ensures in let q : endIn (c .before .before .before .before .before .before .before .before .before .before .before .visit .result) < STOPPED = omega arith in q in
-    let other = let q : endIn (c .before .before .before .before .before .before .before .before .before .before .before .visit .result) ≢ c .before .before .before .before .before .before .before .before .before .before .before .before .before .before .loop .at = λ e. c .before .before .before .before .before .before .before .if3 .left (c .before .before .before .before .before .before .before .before .before .before .end-of .ensures ∙ e) in q in
-    let none = let q : getD (set (c .before .before .before .before .before .before .before .before .before .before .before .visit .last .1 .1 .1 .0 .now) 2043 (madeIn (c .before .before .before .before .before .before .before .before .before .before .before .visit .last .1 .1 .1 .0 .now) + 1)) (placeIn (lent (c .before .before .before .before .before .before .before .before .before .before .before .before .before .before .before .before .before .before .before .args .table .now .now) (c .before .before .before .before .before .before .before .before .before .before .before .before .before .before .before .before .before .before .before .args .given .now)) (c .before .before .before .before .before .before .before .before .before .before .before .before .before .before .before .before .before .before .before .args .line .now .now) (c .before .before .before .before .before .before .before .before .before .before .before .before .before .before .before .before .before .before .before .args .node) (endIn (c .before .before .before .before .before .before .before .before .before .before .before .visit .result))) 0 ≡ 0 = let z = c .if5 .left in omega (arith, keep-row-looked t (c .before) .1) in q in
-    let h = has-turn _ _ _ _ _ (pre .0) (pre .1 .0 .0) (pre .1 .0 .1) (pre .1 .1) (c .before .before .before .before .before .before .before .before .before .before .before .before .before .before .loop .inv .0) _ (keep-row-visited t (c .before .before .before .before .before .before .before .before .before .before .before)) less other (keep-row-counted t (c .before .before .before .before) .0) none in
-    omega (arith, h .within, h .allowance)
+    let match = matched (c .before .before .before .before .before .before .before .before .before .before .before .before .end-of .ensures) ((keep-row-visited t (c .before .before .before .before .before .before .before .before .before .before .before .before .before)) .came .end-most) (c .before .before .before .before .before .before .before .before .before .before .before .if1 .left) (c .before .before .before .before .before .before .before .before .before .before .if2 .left) in
+    let less = let e = c .before .before .before .before .before .before .before .before .before .before .before .before .end-of .ensures in let q : endIn (c .before .before .before .before .before .before .before .before .before .before .before .before .before .visit .result) < STOPPED = omega arith in q in
+    let other = let q : endIn (c .before .before .before .before .before .before .before .before .before .before .before .before .before .visit .result) ≢ posIn (c .before .before .before .before .before .before .before .before .before .before .before .before .before .before .before .loop .here) = λ e. c .before .before .before .before .before .before .before .before .if3 .left (c .before .before .before .before .before .before .before .before .before .before .before .before .end-of .ensures ∙ e ∙ sym (c .before .before .before .before .before .before .before .before .before .pos-of2 .ensures)) in q in
+    let none = let q : getD (set (c .before .before .before .before .before .before .before .before .before .before .before .before .before .visit .last .1 .1 .1 .0 .now) 2043 (madeIn (c .before .before .before .before .before .before .before .before .before .before .before .before .before .visit .last .1 .1 .1 .0 .now) + 1)) (placeIn (lent (c .before .before .before .before .before .before .before .before .before .before .before .before .before .before .before .before .before .before .before .args .table .now .now) (c .before .before .before .before .before .before .before .before .before .before .before .before .before .before .before .before .before .before .before .args .given .now)) (c .before .before .before .before .before .before .before .before .before .before .before .before .before .before .before .before .before .before .before .args .line .now .now) (c .before .before .before .before .before .before .before .before .before .before .before .before .before .before .before .before .before .before .before .args .node) (endIn (c .before .before .before .before .before .before .before .before .before .before .before .before .before .visit .result))) 0 ≡ 0 = let z = c .before .if5 .left in omega (arith, keep-row-looked t (c .before .before) .1) in q in
+    let h = has-turn _ _ _ _ _ (pre .0) (pre .1 .0 .0) (pre .1 .0 .1) (pre .1 .1) (c .before .before .before .before .before .before .before .before .before .before .before .before .before .before .before .loop .inv .0) _ (keep-row-visited t (c .before .before .before .before .before .before .before .before .before .before .before .before .before)) less other (keep-row-counted t (c .before .before .before .before .before) .0) none in
+    omega (arith, h .within, h .allowance, still-turns _ _ _ _ _ (pre .0) (pre .1 .0 .0) (pre .1 .0 .1) (pre .1 .1) (c .before .before .before .before .before .before .before .before .before .before .before .before .before .before .before .loop .inv .0) _ (keep-row-visited t (c .before .before .before .before .before .before .before .before .before .before .before .before .before)) less other (keep-row-counted t (c .before .before .before .before .before) .0), ap turnsIn (keep-row-looked t (c .before .before) .0))
 
 keep-row-slice-aggregate-put-turn : (t : ℕ) → keep-row-lts.Need-slice-aggregate-put-turn (keep-row-claims t) (keep-row-at t) keep-row.Post keep-row-Inv-loop keep-row-μ-loop
 keep-row-slice-aggregate-put-turn t c = refl
+
+keep-row-pos-of-requires-4 : (t : ℕ) → keep-row-lts.Need-pos-of-requires-4 (keep-row-claims t) (keep-row-at t) keep-row.Post keep-row-Inv-loop keep-row-μ-loop
+keep-row-pos-of-requires-4 t c κs = tt
 
 keep-row-list-of-requires-3 : (t : ℕ) → keep-row-lts.Need-list-of-requires-3 (keep-row-claims t) (keep-row-at t) keep-row.Post keep-row-Inv-loop keep-row-μ-loop
 keep-row-list-of-requires-3 t c κs = tt
 
 keep-row-put-turn-requires : (t : ℕ) → keep-row-lts.Need-put-turn-requires (keep-row-claims t) (keep-row-at t) keep-row.Post keep-row-Inv-loop keep-row-μ-loop
 keep-row-put-turn-requires t c κs =
-    let pre = c .before .before .before .before .before .before .before .before .before .before .before .before .before .before .before .before .before .before .before .before .before .pre .1 in
-    let match = matched (c .before .before .before .before .before .before .before .before .before .before .before .before .end-of .ensures) ((keep-row-visited t (c .before .before .before .before .before .before .before .before .before .before .before .before .before)) .came .end-most) (c .before .before .before .before .before .before .before .before .before .before .before .if1 .left) (c .before .before .before .before .before .before .before .before .before .before .if2 .left) in
-    let less = let e = c .before .before .before .before .before .before .before .before .before .before .before .before .end-of .ensures in let q : endIn (c .before .before .before .before .before .before .before .before .before .before .before .before .before .visit .result) < STOPPED = omega arith in q in
-    let other = let q : endIn (c .before .before .before .before .before .before .before .before .before .before .before .before .before .visit .result) ≢ c .before .before .before .before .before .before .before .before .before .before .before .before .before .before .before .before .loop .at = λ e. c .before .before .before .before .before .before .before .before .before .if3 .left (c .before .before .before .before .before .before .before .before .before .before .before .before .end-of .ensures ∙ e) in q in
-    let none = let q : getD (set (c .before .before .before .before .before .before .before .before .before .before .before .before .before .visit .last .1 .1 .1 .0 .now) 2043 (madeIn (c .before .before .before .before .before .before .before .before .before .before .before .before .before .visit .last .1 .1 .1 .0 .now) + 1)) (placeIn (lent (c .before .before .before .before .before .before .before .before .before .before .before .before .before .before .before .before .before .before .before .before .before .args .table .now .now) (c .before .before .before .before .before .before .before .before .before .before .before .before .before .before .before .before .before .before .before .before .before .args .given .now)) (c .before .before .before .before .before .before .before .before .before .before .before .before .before .before .before .before .before .before .before .before .before .args .line .now .now) (c .before .before .before .before .before .before .before .before .before .before .before .before .before .before .before .before .before .before .before .before .before .args .node) (endIn (c .before .before .before .before .before .before .before .before .before .before .before .before .before .visit .result))) 0 ≡ 0 = let z = c .before .before .if5 .left in omega (arith, keep-row-looked t (c .before .before .before) .1) in q in
-    rw (keep-row-looked t (c .before .before .before) .0) (has-turn _ _ _ _ _ (pre .0) (pre .1 .0 .0) (pre .1 .0 .1) (pre .1 .1) (c .before .before .before .before .before .before .before .before .before .before .before .before .before .before .before .before .loop .inv .0) _ (keep-row-visited t (c .before .before .before .before .before .before .before .before .before .before .before .before .before)) less other (keep-row-counted t (c .before .before .before .before .before .before) .0) none)
+    let pre = c .before .before .before .before .before .before .before .before .before .before .before .before .before .before .before .before .before .before .before .before .before .before .pre .1 in
+    let match = matched (c .before .before .before .before .before .before .before .before .before .before .before .before .before .before .before .end-of .ensures) ((keep-row-visited t (c .before .before .before .before .before .before .before .before .before .before .before .before .before .before .before .before)) .came .end-most) (c .before .before .before .before .before .before .before .before .before .before .before .before .before .before .if1 .left) (c .before .before .before .before .before .before .before .before .before .before .before .before .before .if2 .left) in
+    let less = let e = c .before .before .before .before .before .before .before .before .before .before .before .before .before .before .before .end-of .ensures in let q : endIn (c .before .before .before .before .before .before .before .before .before .before .before .before .before .before .before .before .visit .result) < STOPPED = omega arith in q in
+    let other = let q : endIn (c .before .before .before .before .before .before .before .before .before .before .before .before .before .before .before .before .visit .result) ≢ posIn (c .before .before .before .before .before .before .before .before .before .before .before .before .before .before .before .before .before .before .loop .here) = λ e. c .before .before .before .before .before .before .before .before .before .before .before .if3 .left (c .before .before .before .before .before .before .before .before .before .before .before .before .before .before .before .end-of .ensures ∙ e ∙ sym (c .before .before .before .before .before .before .before .before .before .before .before .before .pos-of2 .ensures)) in q in
+    let none = let q : getD (set (c .before .before .before .before .before .before .before .before .before .before .before .before .before .before .before .before .visit .last .1 .1 .1 .0 .now) 2043 (madeIn (c .before .before .before .before .before .before .before .before .before .before .before .before .before .before .before .before .visit .last .1 .1 .1 .0 .now) + 1)) (placeIn (lent (c .before .before .before .before .before .before .before .before .before .before .before .before .before .before .before .before .before .before .before .before .before .before .args .table .now .now) (c .before .before .before .before .before .before .before .before .before .before .before .before .before .before .before .before .before .before .before .before .before .before .args .given .now)) (c .before .before .before .before .before .before .before .before .before .before .before .before .before .before .before .before .before .before .before .before .before .before .args .line .now .now) (c .before .before .before .before .before .before .before .before .before .before .before .before .before .before .before .before .before .before .before .before .before .before .args .node) (endIn (c .before .before .before .before .before .before .before .before .before .before .before .before .before .before .before .before .visit .result))) 0 ≡ 0 = let z = c .before .before .before .before .if5 .left in omega (arith, keep-row-looked t (c .before .before .before .before .before) .1) in q in
+    rw ((ap turnsIn (keep-row-looked t (c .before .before .before .before .before) .0) ∙ still-turns _ _ _ _ _ (pre .0) (pre .1 .0 .0) (pre .1 .0 .1) (pre .1 .1) (c .before .before .before .before .before .before .before .before .before .before .before .before .before .before .before .before .before .before .loop .inv .0) _ (keep-row-visited t (c .before .before .before .before .before .before .before .before .before .before .before .before .before .before .before .before)) less other (keep-row-counted t (c .before .before .before .before .before .before .before .before) .0)), keep-row-looked t (c .before .before .before .before .before) .0) (has-turn _ _ _ _ _ (pre .0) (pre .1 .0 .0) (pre .1 .0 .1) (pre .1 .1) (c .before .before .before .before .before .before .before .before .before .before .before .before .before .before .before .before .before .before .loop .inv .0) _ (keep-row-visited t (c .before .before .before .before .before .before .before .before .before .before .before .before .before .before .before .before)) less other (keep-row-counted t (c .before .before .before .before .before .before .before .before) .0) none)
+
+keep-row-moved-requires : (t : ℕ) → keep-row-lts.Need-moved-requires (keep-row-claims t) (keep-row-at t) keep-row.Post keep-row-Inv-loop keep-row-μ-loop
+keep-row-moved-requires t c κs = tt
 
 keep-row-loop-less : (t : ℕ) → keep-row-lts.Need-loop-less (keep-row-claims t) (keep-row-at t) keep-row.Post keep-row-Inv-loop keep-row-μ-loop
 keep-row-loop-less t c =
-    let pre = c .before .before .before .before .before .before .before .before .before .before .before .before .before .before .before .before .before .before .before .before .before .before .pre .1 in
-    let match = matched (c .before .before .before .before .before .before .before .before .before .before .before .before .before .end-of .ensures) ((keep-row-visited t (c .before .before .before .before .before .before .before .before .before .before .before .before .before .before)) .came .end-most) (c .before .before .before .before .before .before .before .before .before .before .before .before .if1 .left) (c .before .before .before .before .before .before .before .before .before .before .before .if2 .left) in
-    let less = let e = c .before .before .before .before .before .before .before .before .before .before .before .before .before .end-of .ensures in let q : endIn (c .before .before .before .before .before .before .before .before .before .before .before .before .before .before .visit .result) < STOPPED = omega arith in q in
-    let other = let q : endIn (c .before .before .before .before .before .before .before .before .before .before .before .before .before .before .visit .result) ≢ c .before .before .before .before .before .before .before .before .before .before .before .before .before .before .before .before .before .loop .at = λ e. c .before .before .before .before .before .before .before .before .before .before .if3 .left (c .before .before .before .before .before .before .before .before .before .before .before .before .before .end-of .ensures ∙ e) in q in
-    let none = let q : getD (set (c .before .before .before .before .before .before .before .before .before .before .before .before .before .before .visit .last .1 .1 .1 .0 .now) 2043 (madeIn (c .before .before .before .before .before .before .before .before .before .before .before .before .before .before .visit .last .1 .1 .1 .0 .now) + 1)) (placeIn (lent (c .before .before .before .before .before .before .before .before .before .before .before .before .before .before .before .before .before .before .before .before .before .before .args .table .now .now) (c .before .before .before .before .before .before .before .before .before .before .before .before .before .before .before .before .before .before .before .before .before .before .args .given .now)) (c .before .before .before .before .before .before .before .before .before .before .before .before .before .before .before .before .before .before .before .before .before .before .args .line .now .now) (c .before .before .before .before .before .before .before .before .before .before .before .before .before .before .before .before .before .before .before .before .before .before .args .node) (endIn (c .before .before .before .before .before .before .before .before .before .before .before .before .before .before .visit .result))) 0 ≡ 0 = let z = c .before .before .before .if5 .left in omega (arith, keep-row-looked t (c .before .before .before .before) .1) in q in
-    nearer _ _ _ _ _ (pre .0) (pre .1 .0 .0) (pre .1 .0 .1) (pre .1 .1) (c .before .before .before .before .before .before .before .before .before .before .before .before .before .before .before .before .before .loop .inv .0) _ (keep-row-visited t (c .before .before .before .before .before .before .before .before .before .before .before .before .before .before)) less other (keep-row-counted t (c .before .before .before .before .before .before .before) .0) none _ (rw (keep-row-looked t (c .before .before .before .before) .0) at (c .put-turn .ensures))
+    let pre = c .before .before .before .before .before .before .before .before .before .before .before .before .before .before .before .before .before .before .before .before .before .before .before .before .pre .1 in
+    let match = matched (c .before .before .before .before .before .before .before .before .before .before .before .before .before .before .before .before .before .end-of .ensures) ((keep-row-visited t (c .before .before .before .before .before .before .before .before .before .before .before .before .before .before .before .before .before .before)) .came .end-most) (c .before .before .before .before .before .before .before .before .before .before .before .before .before .before .before .before .if1 .left) (c .before .before .before .before .before .before .before .before .before .before .before .before .before .before .before .if2 .left) in
+    let less = let e = c .before .before .before .before .before .before .before .before .before .before .before .before .before .before .before .before .before .end-of .ensures in let q : endIn (c .before .before .before .before .before .before .before .before .before .before .before .before .before .before .before .before .before .before .visit .result) < STOPPED = omega arith in q in
+    let other = let q : endIn (c .before .before .before .before .before .before .before .before .before .before .before .before .before .before .before .before .before .before .visit .result) ≢ posIn (c .before .before .before .before .before .before .before .before .before .before .before .before .before .before .before .before .before .before .before .before .loop .here) = λ e. c .before .before .before .before .before .before .before .before .before .before .before .before .before .if3 .left (c .before .before .before .before .before .before .before .before .before .before .before .before .before .before .before .before .before .end-of .ensures ∙ e ∙ sym (c .before .before .before .before .before .before .before .before .before .before .before .before .before .before .pos-of2 .ensures)) in q in
+    let none = let q : getD (set (c .before .before .before .before .before .before .before .before .before .before .before .before .before .before .before .before .before .before .visit .last .1 .1 .1 .0 .now) 2043 (madeIn (c .before .before .before .before .before .before .before .before .before .before .before .before .before .before .before .before .before .before .visit .last .1 .1 .1 .0 .now) + 1)) (placeIn (lent (c .before .before .before .before .before .before .before .before .before .before .before .before .before .before .before .before .before .before .before .before .before .before .before .before .args .table .now .now) (c .before .before .before .before .before .before .before .before .before .before .before .before .before .before .before .before .before .before .before .before .before .before .before .before .args .given .now)) (c .before .before .before .before .before .before .before .before .before .before .before .before .before .before .before .before .before .before .before .before .before .before .before .before .args .line .now .now) (c .before .before .before .before .before .before .before .before .before .before .before .before .before .before .before .before .before .before .before .before .before .before .before .before .args .node) (endIn (c .before .before .before .before .before .before .before .before .before .before .before .before .before .before .before .before .before .before .visit .result))) 0 ≡ 0 = let z = c .before .before .before .before .before .before .if5 .left in omega (arith, keep-row-looked t (c .before .before .before .before .before .before .before) .1) in q in
+    nearer _ _ _ _ _ (pre .0) (pre .1 .0 .0) (pre .1 .0 .1) (pre .1 .1) (c .before .before .before .before .before .before .before .before .before .before .before .before .before .before .before .before .before .before .before .before .loop .inv .0) _ (keep-row-visited t (c .before .before .before .before .before .before .before .before .before .before .before .before .before .before .before .before .before .before)) less other (keep-row-counted t (c .before .before .before .before .before .before .before .before .before .before) .0) none _ (rw ((ap turnsIn (keep-row-looked t (c .before .before .before .before .before .before .before) .0) ∙ still-turns _ _ _ _ _ (pre .0) (pre .1 .0 .0) (pre .1 .0 .1) (pre .1 .1) (c .before .before .before .before .before .before .before .before .before .before .before .before .before .before .before .before .before .before .before .before .loop .inv .0) _ (keep-row-visited t (c .before .before .before .before .before .before .before .before .before .before .before .before .before .before .before .before .before .before)) less other (keep-row-counted t (c .before .before .before .before .before .before .before .before .before .before) .0)), keep-row-looked t (c .before .before .before .before .before .before .before) .0, c .before .before .before .pos-of4 .ensures) at (c .before .put-turn .ensures))
 
 keep-row-loop-again : (t : ℕ) → keep-row-lts.Need-loop-again (keep-row-claims t) (keep-row-at t) keep-row.Post keep-row-Inv-loop keep-row-μ-loop
 keep-row-loop-again t c =
-    let pre = c .before .before .before .before .before .before .before .before .before .before .before .before .before .before .before .before .before .before .before .before .before .before .pre .1 in
-    let match = matched (c .before .before .before .before .before .before .before .before .before .before .before .before .before .end-of .ensures) ((keep-row-visited t (c .before .before .before .before .before .before .before .before .before .before .before .before .before .before)) .came .end-most) (c .before .before .before .before .before .before .before .before .before .before .before .before .if1 .left) (c .before .before .before .before .before .before .before .before .before .before .before .if2 .left) in
-    let less = let e = c .before .before .before .before .before .before .before .before .before .before .before .before .before .end-of .ensures in let q : endIn (c .before .before .before .before .before .before .before .before .before .before .before .before .before .before .visit .result) < STOPPED = omega arith in q in
-    let other = let q : endIn (c .before .before .before .before .before .before .before .before .before .before .before .before .before .before .visit .result) ≢ c .before .before .before .before .before .before .before .before .before .before .before .before .before .before .before .before .before .loop .at = λ e. c .before .before .before .before .before .before .before .before .before .before .if3 .left (c .before .before .before .before .before .before .before .before .before .before .before .before .before .end-of .ensures ∙ e) in q in
-    let none = let q : getD (set (c .before .before .before .before .before .before .before .before .before .before .before .before .before .before .visit .last .1 .1 .1 .0 .now) 2043 (madeIn (c .before .before .before .before .before .before .before .before .before .before .before .before .before .before .visit .last .1 .1 .1 .0 .now) + 1)) (placeIn (lent (c .before .before .before .before .before .before .before .before .before .before .before .before .before .before .before .before .before .before .before .before .before .before .args .table .now .now) (c .before .before .before .before .before .before .before .before .before .before .before .before .before .before .before .before .before .before .before .before .before .before .args .given .now)) (c .before .before .before .before .before .before .before .before .before .before .before .before .before .before .before .before .before .before .before .before .before .before .args .line .now .now) (c .before .before .before .before .before .before .before .before .before .before .before .before .before .before .before .before .before .before .before .before .before .before .args .node) (endIn (c .before .before .before .before .before .before .before .before .before .before .before .before .before .before .visit .result))) 0 ≡ 0 = let z = c .before .before .before .if5 .left in omega (arith, keep-row-looked t (c .before .before .before .before) .1) in q in
-    (rw (c .before .before .before .before .before .before .before .before .before .before .before .before .before .end-of .ensures) (goes-on _ _ _ _ _ (pre .0) (pre .1 .0 .0) (pre .1 .0 .1) (pre .1 .1) (c .before .before .before .before .before .before .before .before .before .before .before .before .before .before .before .before .before .loop .inv .0) _ (keep-row-visited t (c .before .before .before .before .before .before .before .before .before .before .before .before .before .before)) less other (keep-row-counted t (c .before .before .before .before .before .before .before) .0) none _ (rw (keep-row-looked t (c .before .before .before .before) .0) at (c .put-turn .ensures)) (c .before .list-of3 .ensures)), (c .before .before .before .before .before .before .before .before .before .before .before .before .before .before .before .before .before .loop .inv .1 .0, ap (λ r. r .name) (c .before .before .before .before .kept-word .ensures .1) ∙ c .before .before .before .before .before .before .before .before .enter-in-place .ensures .1 ∙ c .before .before .before .before .before .before .before .before .before .before .before .before .before .before .visit .ensures .1 ∙ c .before .before .before .before .before .before .before .before .before .before .before .before .before .before .before .before .before .loop .inv .1 .1))
+    let pre = c .before .before .before .before .before .before .before .before .before .before .before .before .before .before .before .before .before .before .before .before .before .before .before .before .pre .1 in
+    let match = matched (c .before .before .before .before .before .before .before .before .before .before .before .before .before .before .before .before .before .end-of .ensures) ((keep-row-visited t (c .before .before .before .before .before .before .before .before .before .before .before .before .before .before .before .before .before .before)) .came .end-most) (c .before .before .before .before .before .before .before .before .before .before .before .before .before .before .before .before .if1 .left) (c .before .before .before .before .before .before .before .before .before .before .before .before .before .before .before .if2 .left) in
+    let less = let e = c .before .before .before .before .before .before .before .before .before .before .before .before .before .before .before .before .before .end-of .ensures in let q : endIn (c .before .before .before .before .before .before .before .before .before .before .before .before .before .before .before .before .before .before .visit .result) < STOPPED = omega arith in q in
+    let other = let q : endIn (c .before .before .before .before .before .before .before .before .before .before .before .before .before .before .before .before .before .before .visit .result) ≢ posIn (c .before .before .before .before .before .before .before .before .before .before .before .before .before .before .before .before .before .before .before .before .loop .here) = λ e. c .before .before .before .before .before .before .before .before .before .before .before .before .before .if3 .left (c .before .before .before .before .before .before .before .before .before .before .before .before .before .before .before .before .before .end-of .ensures ∙ e ∙ sym (c .before .before .before .before .before .before .before .before .before .before .before .before .before .before .pos-of2 .ensures)) in q in
+    let none = let q : getD (set (c .before .before .before .before .before .before .before .before .before .before .before .before .before .before .before .before .before .before .visit .last .1 .1 .1 .0 .now) 2043 (madeIn (c .before .before .before .before .before .before .before .before .before .before .before .before .before .before .before .before .before .before .visit .last .1 .1 .1 .0 .now) + 1)) (placeIn (lent (c .before .before .before .before .before .before .before .before .before .before .before .before .before .before .before .before .before .before .before .before .before .before .before .before .args .table .now .now) (c .before .before .before .before .before .before .before .before .before .before .before .before .before .before .before .before .before .before .before .before .before .before .before .before .args .given .now)) (c .before .before .before .before .before .before .before .before .before .before .before .before .before .before .before .before .before .before .before .before .before .before .before .before .args .line .now .now) (c .before .before .before .before .before .before .before .before .before .before .before .before .before .before .before .before .before .before .before .before .before .before .before .before .args .node) (endIn (c .before .before .before .before .before .before .before .before .before .before .before .before .before .before .before .before .before .before .visit .result))) 0 ≡ 0 = let z = c .before .before .before .before .before .before .if5 .left in omega (arith, keep-row-looked t (c .before .before .before .before .before .before .before) .1) in q in
+    let on = c .moved .ensures in
+    let here = c .before .before .before .before .before .before .before .before .before .before .before .before .before .before .before .before .before .before .before .before .loop .inv .1 .1 .0 in
+    let next = goes-on _ _ _ _ _ (pre .0) (pre .1 .0 .0) (pre .1 .0 .1) (pre .1 .1) (c .before .before .before .before .before .before .before .before .before .before .before .before .before .before .before .before .before .before .before .before .loop .inv .0) _ (keep-row-visited t (c .before .before .before .before .before .before .before .before .before .before .before .before .before .before .before .before .before .before)) less other (keep-row-counted t (c .before .before .before .before .before .before .before .before .before .before) .0) none _ (rw ((ap turnsIn (keep-row-looked t (c .before .before .before .before .before .before .before) .0) ∙ still-turns _ _ _ _ _ (pre .0) (pre .1 .0 .0) (pre .1 .0 .1) (pre .1 .1) (c .before .before .before .before .before .before .before .before .before .before .before .before .before .before .before .before .before .before .before .before .loop .inv .0) _ (keep-row-visited t (c .before .before .before .before .before .before .before .before .before .before .before .before .before .before .before .before .before .before)) less other (keep-row-counted t (c .before .before .before .before .before .before .before .before .before .before) .0)), keep-row-looked t (c .before .before .before .before .before .before .before) .0, c .before .before .before .pos-of4 .ensures) at (c .before .put-turn .ensures)) (c .before .before .list-of3 .ensures) in
+    (rw (on .there, c .before .before .before .before .before .before .before .before .before .before .before .before .before .before .before .before .before .end-of .ensures, next .turns-in) next, (c .before .before .before .before .before .before .before .before .before .before .before .before .before .before .before .before .before .before .before .before .loop .inv .1 .0, (record { left = on .left ∙ here .left; live = on .live ∙ here .live; there = refl }, ap (λ r. r .name) (c .before .before .before .before .before .before .before .kept-word .ensures .1) ∙ c .before .before .before .before .before .before .before .before .before .before .before .enter-in-place .ensures .1 ∙ c .before .before .before .before .before .before .before .before .before .before .before .before .before .before .before .before .before .before .visit .ensures .1 ∙ c .before .before .before .before .before .before .before .before .before .before .before .before .before .before .before .before .before .before .before .before .loop .inv .1 .1 .1)))
 
 -- All of it.
 pub keep-row-closed : (M : Type 1) (t : ℕ) → keep-row-lts.Closed (keep-row-claims t) (keep-row-at t) keep-row.Post M
@@ -304,17 +317,16 @@ keep-row-closed M t =
     keep-row-μ-loop
     (keep-row-a-of-requires t)
     (keep-row-index-1-before t)
-    (keep-row-pos-of-requires t)
     (keep-row-loop-holds t)
-    (keep-row-moved-requires t)
     (keep-row-visit-requires t)
     (keep-row-end-of-requires t)
     (keep-row-slice-aggregate-set-turns t)
     (keep-row-set-turns-requires t)
-    (keep-row-moved-requires-2 t)
+    (keep-row-pos-of-requires t)
     (keep-row-answer-requires t)
     (keep-row-go-back-requires t)
-    (keep-row-moved-requires-3 t)
+    (keep-row-pos-of-requires-2 t)
+    (keep-row-pos-of-requires-3 t)
     (keep-row-answer-requires-2 t)
     (keep-row-go-back-requires-2 t)
     (keep-row-enter-in-place-requires t)
@@ -330,12 +342,14 @@ keep-row-closed M t =
     (keep-row-list-of-requires t)
     (keep-row-list-of-requires-2 t)
     (keep-row-joined-requires t)
-    (keep-row-moved-requires-4 t)
     (keep-row-go-back-requires-3 t)
+    (keep-row-index-1-turns t)
     (keep-row-add-turns t)
     (keep-row-slice-aggregate-put-turn t)
+    (keep-row-pos-of-requires-4 t)
     (keep-row-list-of-requires-3 t)
     (keep-row-put-turn-requires t)
+    (keep-row-moved-requires t)
     (keep-row-loop-less t)
     (keep-row-loop-again t)
     (keep-row-returns t)

@@ -16,7 +16,7 @@ use native.Mathlib.Omega.{arith}
 use mathlib.Core.Logic.{_≢_, inl, inr}
 use mathlib.Core.Path.{_≡_, refl, sym, ap, _∙_}
 use lib.ListN.{getD}
-use Rattle.visits.specs.Given.{lent, aIn, leftIn, liveIn, posIn}
+use Rattle.visits.specs.Given.{lent, aIn, leftIn, liveIn, posIn, Moved}
 use Rattle.visits.specs.Words.{topIn, madeIn}
 use Rattle.visits.specs.Says.{STOPPED, endIn, listIn, Visits, after-visit, reading}
 use Rattle.visits.proofs.ByKind.{repetition-child}
@@ -27,86 +27,84 @@ use Rattle.visits.proofs.RowsHere.{RowIn, begins, child-starts, refuses
 use Rattle.visits.proofs.+apply+keep_row+use_fresh+use_live+use_once+use_rule+visit+visit_choice+visit_not+visit_open+visit_pair+visit_repetition+visit_row+visit_sequence.Proof.Ranks.{visit-below, visit-row-at}
 
 abbrev visit-row-claims : ℕ → visit-row-lts.Claims
-visit-row-claims t = (a-of-reads.Asked, a-of-reads.Learnt, pos-of-reads.Asked, pos-of-reads.Learnt, moved-reads.Asked, moved-reads.Learnt, visit-below t, visit.Post, end-of-reads.Asked, end-of-reads.Learnt, answer-reads.Asked, answer-reads.Learnt, list-of-reads.Asked, list-of-reads.Learnt, joined-reads.Asked, joined-reads.Learnt, enter-in-place-reads.Asked, enter-in-place-reads.Learnt)
+visit-row-claims t = (a-of-reads.Asked, a-of-reads.Learnt, visit-below t, visit.Post, end-of-reads.Asked, end-of-reads.Learnt, pos-of-reads.Asked, pos-of-reads.Learnt, answer-reads.Asked, answer-reads.Learnt, list-of-reads.Asked, list-of-reads.Learnt, joined-reads.Asked, joined-reads.Learnt, enter-in-place-reads.Asked, enter-in-place-reads.Learnt, moved-reads.Asked, moved-reads.Learnt)
 
+-- What the loop keeps true, where the visit at hand stands at `here`.
 abbrev visit-row-Inv-loop : visit-row-lts.InvT-loop
-visit-row-Inv-loop given table line work₀ spot node x at₀ list₀ work at list = RowIn (lent (table .now) given) (line .now) spot node (work₀ .now) (work .now) at list × (work .name ≡ work₀ .name)
+visit-row-Inv-loop given table line work₀ spot node x here₀ list₀ work here list = RowIn (lent (table .now) given) (line .now) spot node (work₀ .now) (work .now) (posIn here) list × (Moved spot (posIn here) here × (work .name ≡ work₀ .name))
 
 abbrev visit-row-μ-loop : visit-row-lts.MeasureT-loop
-visit-row-μ-loop given table line work₀ spot node x at₀ list₀ work at list = getD given 0 0 - madeIn (work .now)
+visit-row-μ-loop given table line work₀ spot node x here₀ list₀ work here list = getD given 0 0 - madeIn (work .now)
 
 -- The child was visited, where the repetition stands.
 visit-row-visited : (t : ℕ) (c : visit-row-lts.After-visit (visit-row-claims t) (visit-row-at t) visit-row.Post visit-row-Inv-loop visit-row-μ-loop)
-    → let args = c .before .before .before .before .before .before .before .args in
+    → let args = c .before .before .before .before .before .args in
     let given = lent (args .table .now .now) (args .given .now) in
-    Visits given (args .line .now .now) (c .before .before .before .loop .work .now) (c .visit .last .1 .1 .1 .0 .now) (liveIn (args .spot)) (c .before .before .before .loop .at) (madeIn (c .before .before .before .loop .work .now)) (topIn (c .before .before .before .loop .work .now)) (after-visit (c .visit .result) (c .visit .last .1 .1 .1 .0 .now))
-    (λ l s. reading given (args .line .now .now) (leftIn (args .spot)) l (aIn given (args .node)) (c .before .before .before .loop .at) s)
-visit-row-visited t c = rw (c .before .before .before .before .before .a-of .ensures .0) at (ends-moved _ _ (c .before .moved .ensures) _ _ (c .visit .ensures .0))
+    let words = c .before .before .loop .work .now in
+    Visits given (args .line .now .now) words (c .visit .last .1 .1 .1 .0 .now) (liveIn (args .spot)) (posIn (c .before .before .loop .here)) (madeIn words) (topIn words) (after-visit (c .visit .result) (c .visit .last .1 .1 .1 .0 .now))
+    (λ l s. reading given (args .line .now .now) (leftIn (args .spot)) l (aIn given (args .node)) (posIn (c .before .before .loop .here)) s)
+visit-row-visited t c = rw (c .before .before .before .a-of .ensures .0) at (ends-moved _ _ (c .before .before .loop .inv .1 .0) _ _ (c .visit .ensures .0))
 
 visit-row-a-of-requires : (t : ℕ) → visit-row-lts.Need-a-of-requires (visit-row-claims t) (visit-row-at t) visit-row.Post visit-row-Inv-loop visit-row-μ-loop
 visit-row-a-of-requires t c κs =
     node-known (c .before .pre .1 .0)
 
-visit-row-pos-of-requires : (t : ℕ) → visit-row-lts.Need-pos-of-requires (visit-row-claims t) (visit-row-at t) visit-row.Post visit-row-Inv-loop visit-row-μ-loop
-visit-row-pos-of-requires t c κs = tt
-
 visit-row-loop-holds : (t : ℕ) → visit-row-lts.Need-loop-holds (visit-row-claims t) (visit-row-at t) visit-row.Post visit-row-Inv-loop visit-row-μ-loop
 visit-row-loop-holds t c =
-    (rw (c .pos-of .ensures) (begins _ _ _ _ _ (c .before .before .before .pre .1 .0) (c .before .before .before .pre .1 .1 .0 .0) (c .before .before .before .pre .1 .1 .0 .1) (c .before .before .before .pre .1 .1 .1)), refl)
-
-visit-row-moved-requires : (t : ℕ) → visit-row-lts.Need-moved-requires (visit-row-claims t) (visit-row-at t) visit-row.Post visit-row-Inv-loop visit-row-μ-loop
-visit-row-moved-requires t c κs = tt
+    let pre = c .before .before .pre .1 in
+    (begins _ _ _ _ _ (pre .0) (pre .1 .0 .0) (pre .1 .0 .1) (pre .1 .1), (record { left = refl; live = refl; there = refl }, refl))
 
 visit-row-visit-requires : (t : ℕ) → visit-row-lts.Need-visit-requires (visit-row-claims t) (visit-row-at t) visit-row.Post visit-row-Inv-loop visit-row-μ-loop
 visit-row-visit-requires t c κs =
-    let pre = c .before .before .before .before .before .before .pre .1 in
-    let x = c .before .before .before .before .a-of .ensures .0 in
-    (omega (arith, c .before .before .before .before .before .before .pre .0, c .moved .ensures .left), rw x (starts-moved _ _ (c .moved .ensures) _ (child-starts _ _ _ _ _ (pre .0) (pre .1 .0 .0) (pre .1 .0 .1) (pre .1 .1) (c .before .before .loop .inv .0) (repetition-child _ _ (pre .0 .fit) _ (pre .0 .node-in) (pre .1 .0 .1)))))
+    let pre = c .before .before .before .before .pre .1 in
+    let x = c .before .before .a-of .ensures .0 in
+    let here = c .before .loop .inv .1 .0 in
+    (omega (arith, c .before .before .before .before .pre .0, here .left), rw x (starts-moved _ _ here _ (child-starts _ _ _ _ _ (pre .0) (pre .1 .0 .0) (pre .1 .0 .1) (pre .1 .1) (c .before .loop .inv .0) (repetition-child _ _ (pre .0 .fit) _ (pre .0 .node-in) (pre .1 .0 .1)))))
 
 visit-row-end-of-requires : (t : ℕ) → visit-row-lts.Need-end-of-requires (visit-row-claims t) (visit-row-at t) visit-row.Post visit-row-Inv-loop visit-row-μ-loop
 visit-row-end-of-requires t c κs = tt
 
-visit-row-returns : (t : ℕ) → visit-row-lts.Need-returns (visit-row-claims t) (visit-row-at t) visit-row.Post visit-row-Inv-loop visit-row-μ-loop
-visit-row-returns t c =
-    let pre = c .before .before .before .before .before .before .before .before .before .pre .1 in
-    (refuses _ _ _ _ _ (pre .0) (pre .1 .0 .0) (pre .1 .0 .1) (pre .1 .1) (c .before .before .before .before .before .loop .inv .0) _ (visit-row-visited t (c .before .before)) (sym (c .before .end-of .ensures) ∙ c .if1 .taken), c .before .before .visit .ensures .1 ∙ c .before .before .before .before .before .loop .inv .1)
+visit-row-pos-of-requires : (t : ℕ) → visit-row-lts.Need-pos-of-requires (visit-row-claims t) (visit-row-at t) visit-row.Post visit-row-Inv-loop visit-row-μ-loop
+visit-row-pos-of-requires t c κs = tt
 
 visit-row-answer-requires : (t : ℕ) → visit-row-lts.Need-answer-requires (visit-row-claims t) (visit-row-at t) visit-row.Post visit-row-Inv-loop visit-row-μ-loop
 visit-row-answer-requires t c κs = tt
 
-visit-row-returns-2 : (t : ℕ) → visit-row-lts.Need-returns-2 (visit-row-claims t) (visit-row-at t) visit-row.Post visit-row-Inv-loop visit-row-μ-loop
-visit-row-returns-2 t c =
-    let pre = c .before .before .before .before .before .before .before .before .before .before .before .pre .1 in
-    (ends _ _ _ _ _ (pre .0) (pre .1 .0 .0) (pre .1 .0 .1) (pre .1 .1) (c .before .before .before .before .before .before .before .loop .inv .0) _ (visit-row-visited t (c .before .before .before .before)) (inl (sym (c .before .before .before .end-of .ensures) ∙ c .before .if2 .taken)) _ (c .answer .ensures .0) (c .answer .ensures .1), c .before .before .before .before .visit .ensures .1 ∙ c .before .before .before .before .before .before .before .loop .inv .1)
+visit-row-pos-of-requires-2 : (t : ℕ) → visit-row-lts.Need-pos-of-requires-2 (visit-row-claims t) (visit-row-at t) visit-row.Post visit-row-Inv-loop visit-row-μ-loop
+visit-row-pos-of-requires-2 t c κs = tt
 
 visit-row-answer-requires-2 : (t : ℕ) → visit-row-lts.Need-answer-requires-2 (visit-row-claims t) (visit-row-at t) visit-row.Post visit-row-Inv-loop visit-row-μ-loop
 visit-row-answer-requires-2 t c κs = tt
 
-visit-row-returns-3 : (t : ℕ) → visit-row-lts.Need-returns-3 (visit-row-claims t) (visit-row-at t) visit-row.Post visit-row-Inv-loop visit-row-μ-loop
-visit-row-returns-3 t c =
-    let pre = c .before .before .before .before .before .before .before .before .before .before .before .before .pre .1 in
-    (ends _ _ _ _ _ (pre .0) (pre .1 .0 .0) (pre .1 .0 .1) (pre .1 .1) (c .before .before .before .before .before .before .before .before .loop .inv .0) _ (visit-row-visited t (c .before .before .before .before .before)) (inr (sym (c .before .before .before .before .end-of .ensures) ∙ c .before .if3 .taken)) _ (c .answer2 .ensures .0) (c .answer2 .ensures .1), c .before .before .before .before .before .visit .ensures .1 ∙ c .before .before .before .before .before .before .before .before .loop .inv .1)
+visit-row-list-of-requires : (t : ℕ) → visit-row-lts.Need-list-of-requires (visit-row-claims t) (visit-row-at t) visit-row.Post visit-row-Inv-loop visit-row-μ-loop
+visit-row-list-of-requires t c κs = tt
+
+visit-row-answer-requires-3 : (t : ℕ) → visit-row-lts.Need-answer-requires-3 (visit-row-claims t) (visit-row-at t) visit-row.Post visit-row-Inv-loop visit-row-μ-loop
+visit-row-answer-requires-3 t c κs = tt
+
+visit-row-list-of-requires-2 : (t : ℕ) → visit-row-lts.Need-list-of-requires-2 (visit-row-claims t) (visit-row-at t) visit-row.Post visit-row-Inv-loop visit-row-μ-loop
+visit-row-list-of-requires-2 t c κs = tt
+
+visit-row-moved-requires : (t : ℕ) → visit-row-lts.Need-moved-requires (visit-row-claims t) (visit-row-at t) visit-row.Post visit-row-Inv-loop visit-row-μ-loop
+visit-row-moved-requires t c κs = tt
 
 visit-row-slice-aggregate-joined : (t : ℕ) → visit-row-lts.Need-slice-aggregate-joined (visit-row-claims t) (visit-row-at t) visit-row.Post visit-row-Inv-loop visit-row-μ-loop
 visit-row-slice-aggregate-joined t c = refl
 
-visit-row-list-of-requires : (t : ℕ) → visit-row-lts.Need-list-of-requires (visit-row-claims t) (visit-row-at t) visit-row.Post visit-row-Inv-loop visit-row-μ-loop
-visit-row-list-of-requires t c κs = tt
-
 visit-row-joined-requires : (t : ℕ) → visit-row-lts.Need-joined-requires (visit-row-claims t) (visit-row-at t) visit-row.Post visit-row-Inv-loop visit-row-μ-loop
 visit-row-joined-requires t c κs =
-    let pre = c .before .before .before .before .before .before .before .before .before .before .before .before .before .pre .1 in
-    let match = matched (c .before .before .before .before .before .end-of .ensures) ((visit-row-visited t (c .before .before .before .before .before .before)) .came .end-most) (c .before .before .before .before .if1 .left) (c .before .before .before .if2 .left) in
-    let less = let e = c .before .before .before .before .before .end-of .ensures in let q : endIn (c .before .before .before .before .before .before .visit .result) < STOPPED = omega arith in q in
-    join-ready _ _ _ _ _ (pre .0) (pre .1 .0 .0) (pre .1 .0 .1) (pre .1 .1) (c .before .before .before .before .before .before .before .before .before .loop .inv .0) _ (visit-row-visited t (c .before .before .before .before .before .before)) less _ (c .list-of .ensures)
+    let pre = c .before .before .before .before .before .before .before .before .before .before .before .before .pre .1 in
+    let match = matched (c .before .before .before .before .before .before .end-of .ensures) ((visit-row-visited t (c .before .before .before .before .before .before .before)) .came .end-most) (c .before .before .before .before .before .if1 .left) (c .before .before .before .before .if2 .left) in
+    let less = let e = c .before .before .before .before .before .before .end-of .ensures in let q : endIn (c .before .before .before .before .before .before .before .visit .result) < STOPPED = omega arith in q in
+    join-ready _ _ _ _ _ (pre .0) (pre .1 .0 .0) (pre .1 .0 .1) (pre .1 .1) (c .before .before .before .before .before .before .before .before .before .loop .inv .0) _ (visit-row-visited t (c .before .before .before .before .before .before .before)) less _ (c .list-of .ensures)
 
 visit-row-enter-in-place-requires : (t : ℕ) → visit-row-lts.Need-enter-in-place-requires (visit-row-claims t) (visit-row-at t) visit-row.Post visit-row-Inv-loop visit-row-μ-loop
 visit-row-enter-in-place-requires t c κs =
-    let pre = c .before .before .before .before .before .before .before .before .before .before .before .before .before .before .before .pre .1 in
-    let match = matched (c .before .before .before .before .before .before .before .end-of .ensures) ((visit-row-visited t (c .before .before .before .before .before .before .before .before)) .came .end-most) (c .before .before .before .before .before .before .if1 .left) (c .before .before .before .before .before .if2 .left) in
-    let less = let e = c .before .before .before .before .before .before .before .end-of .ensures in let q : endIn (c .before .before .before .before .before .before .before .before .visit .result) < STOPPED = omega arith in q in
-    let other = let q : endIn (c .before .before .before .before .before .before .before .before .visit .result) ≢ c .before .before .before .before .before .before .before .before .before .before .before .loop .at = λ e. c .before .before .before .before .if3 .left (c .before .before .before .before .before .before .before .end-of .ensures ∙ e) in q in
-    (long _ _ _ _ _ (pre .0) (pre .1 .0 .0) (pre .1 .0 .1) (pre .1 .1) (c .before .before .before .before .before .before .before .before .before .before .before .loop .inv .0) _ (visit-row-visited t (c .before .before .before .before .before .before .before .before)) less other (rw (c .before .before .list-of .ensures) at (c .before .joined .ensures .1)), pre .0 .fit .allowance)
+    let pre = c .before .before .before .before .before .before .before .before .before .before .before .before .before .before .pre .1 in
+    let match = matched (c .before .before .before .before .before .before .before .before .end-of .ensures) ((visit-row-visited t (c .before .before .before .before .before .before .before .before .before)) .came .end-most) (c .before .before .before .before .before .before .before .if1 .left) (c .before .before .before .before .before .before .if2 .left) in
+    let less = let e = c .before .before .before .before .before .before .before .before .end-of .ensures in let q : endIn (c .before .before .before .before .before .before .before .before .before .visit .result) < STOPPED = omega arith in q in
+    let other = let q : endIn (c .before .before .before .before .before .before .before .before .before .visit .result) ≢ posIn (c .before .before .before .before .before .before .before .before .before .before .before .loop .here) = λ e. c .before .before .before .before .if3 .left (c .before .before .before .before .before .before .before .before .end-of .ensures ∙ e ∙ sym (c .before .before .before .before .before .pos-of2 .ensures)) in q in
+    (long _ _ _ _ _ (pre .0) (pre .1 .0 .0) (pre .1 .0 .1) (pre .1 .1) (c .before .before .before .before .before .before .before .before .before .before .before .loop .inv .0) _ (visit-row-visited t (c .before .before .before .before .before .before .before .before .before)) less other (rw (c .before .before .list-of .ensures) at (c .before .joined .ensures .1)), pre .0 .fit .allowance)
 
 visit-row-mul-answer : (t : ℕ) → visit-row-lts.Need-mul-answer (visit-row-claims t) (visit-row-at t) visit-row.Post visit-row-Inv-loop visit-row-μ-loop
 visit-row-mul-answer t c =
@@ -116,42 +114,54 @@ visit-row-mul-answer t c =
 visit-row-add-answer : (t : ℕ) → visit-row-lts.Need-add-answer (visit-row-claims t) (visit-row-at t) visit-row.Post visit-row-Inv-loop visit-row-μ-loop
 visit-row-add-answer t c =
     let small = full-small (c .before .enter-in-place .ensures .0) in
-    let ends = c .before .before .before .before .before .before .before .before .before .end-of .ensures in
-    let visited = visit-row-visited t (c .before .before .before .before .before .before .before .before .before .before) in
-    let match = matched ends (visited .came .end-most) (c .before .before .before .before .before .before .before .before .if1 .left) (c .before .before .before .before .before .before .before .if2 .left) in
-    let less = let q : endIn (c .before .before .before .before .before .before .before .before .before .before .visit .result) < STOPPED = omega arith in q in
+    let ends = c .before .before .before .before .before .before .before .before .before .before .end-of .ensures in
+    let visited = visit-row-visited t (c .before .before .before .before .before .before .before .before .before .before .before) in
+    let match = matched ends (visited .came .end-most) (c .before .before .before .before .before .before .before .before .before .if1 .left) (c .before .before .before .before .before .before .before .before .if2 .left) in
+    let less = let q : endIn (c .before .before .before .before .before .before .before .before .before .before .before .visit .result) < STOPPED = omega arith in q in
     let inside = visited .came .end-in less in
-    omega (arith, small, inside, ends, c .before .before .before .before .before .before .before .before .before .before .before .before .before .before .before .before .before .pre .1 .0 .fit .short)
-
-visit-row-answer-requires-3 : (t : ℕ) → visit-row-lts.Need-answer-requires-3 (visit-row-claims t) (visit-row-at t) visit-row.Post visit-row-Inv-loop visit-row-μ-loop
-visit-row-answer-requires-3 t c κs = tt
-
-visit-row-returns-4 : (t : ℕ) → visit-row-lts.Need-returns-4 (visit-row-claims t) (visit-row-at t) visit-row.Post visit-row-Inv-loop visit-row-μ-loop
-visit-row-returns-4 t c =
-    let pre = c .before .before .before .before .before .before .before .before .before .before .before .before .before .before .before .before .before .before .pre .1 in
-    let match = matched (c .before .before .before .before .before .before .before .before .before .before .end-of .ensures) ((visit-row-visited t (c .before .before .before .before .before .before .before .before .before .before .before)) .came .end-most) (c .before .before .before .before .before .before .before .before .before .if1 .left) (c .before .before .before .before .before .before .before .before .if2 .left) in
-    let less = let e = c .before .before .before .before .before .before .before .before .before .before .end-of .ensures in let q : endIn (c .before .before .before .before .before .before .before .before .before .before .before .visit .result) < STOPPED = omega arith in q in
-    let other = let q : endIn (c .before .before .before .before .before .before .before .before .before .before .before .visit .result) ≢ c .before .before .before .before .before .before .before .before .before .before .before .before .before .before .loop .at = λ e. c .before .before .before .before .before .before .before .if3 .left (c .before .before .before .before .before .before .before .before .before .before .end-of .ensures ∙ e) in q in
-    (full _ _ _ _ _ (pre .0) (pre .1 .0 .0) (pre .1 .0 .1) (pre .1 .1) (c .before .before .before .before .before .before .before .before .before .before .before .before .before .before .loop .inv .0) _ (visit-row-visited t (c .before .before .before .before .before .before .before .before .before .before .before)) less other (rw (c .before .before .before .before .before .list-of .ensures) at (c .before .before .before .before .joined .ensures .1)) (c .before .before .enter-in-place .ensures .0) (c .before .if4 .taken) _ (c .answer3 .ensures .0) (c .answer3 .ensures .1 ∙ ap (λ n. c .before .before .enter-in-place .result * 4096 + n) (c .before .before .before .before .before .before .before .before .before .before .end-of .ensures)), c .before .before .enter-in-place .ensures .1 ∙ c .before .before .before .before .before .before .before .before .before .before .before .visit .ensures .1 ∙ c .before .before .before .before .before .before .before .before .before .before .before .before .before .before .loop .inv .1)
-
-visit-row-list-of-requires-2 : (t : ℕ) → visit-row-lts.Need-list-of-requires-2 (visit-row-claims t) (visit-row-at t) visit-row.Post visit-row-Inv-loop visit-row-μ-loop
-visit-row-list-of-requires-2 t c κs = tt
+    omega (arith, small, inside, ends, c .before .before .before .before .before .before .before .before .before .before .before .before .before .before .before .before .pre .1 .0 .fit .short)
 
 visit-row-loop-less : (t : ℕ) → visit-row-lts.Need-loop-less (visit-row-claims t) (visit-row-at t) visit-row.Post visit-row-Inv-loop visit-row-μ-loop
 visit-row-loop-less t c =
     let pre = c .before .before .before .before .before .before .before .before .before .before .before .before .before .before .before .before .before .before .pre .1 in
-    let match = matched (c .before .before .before .before .before .before .before .before .before .before .end-of .ensures) ((visit-row-visited t (c .before .before .before .before .before .before .before .before .before .before .before)) .came .end-most) (c .before .before .before .before .before .before .before .before .before .if1 .left) (c .before .before .before .before .before .before .before .before .if2 .left) in
-    let less = let e = c .before .before .before .before .before .before .before .before .before .before .end-of .ensures in let q : endIn (c .before .before .before .before .before .before .before .before .before .before .before .visit .result) < STOPPED = omega arith in q in
-    let other = let q : endIn (c .before .before .before .before .before .before .before .before .before .before .before .visit .result) ≢ c .before .before .before .before .before .before .before .before .before .before .before .before .before .before .loop .at = λ e. c .before .before .before .before .before .before .before .if3 .left (c .before .before .before .before .before .before .before .before .before .before .end-of .ensures ∙ e) in q in
-    nearer _ _ _ _ _ (pre .0) (pre .1 .0 .0) (pre .1 .0 .1) (pre .1 .1) (c .before .before .before .before .before .before .before .before .before .before .before .before .before .before .loop .inv .0) _ (visit-row-visited t (c .before .before .before .before .before .before .before .before .before .before .before)) less other (rw (c .before .before .before .before .before .list-of .ensures) at (c .before .before .before .before .joined .ensures .1)) (c .before .before .enter-in-place .ensures .0) (let z = c .before .if4 .left in let q : c .before .before .enter-in-place .result ≡ 0 = omega arith in q)
+    let match = matched (c .before .before .before .before .before .before .before .before .before .before .before .before .end-of .ensures) ((visit-row-visited t (c .before .before .before .before .before .before .before .before .before .before .before .before .before)) .came .end-most) (c .before .before .before .before .before .before .before .before .before .before .before .if1 .left) (c .before .before .before .before .before .before .before .before .before .before .if2 .left) in
+    let less = let e = c .before .before .before .before .before .before .before .before .before .before .before .before .end-of .ensures in let q : endIn (c .before .before .before .before .before .before .before .before .before .before .before .before .before .visit .result) < STOPPED = omega arith in q in
+    let other = let q : endIn (c .before .before .before .before .before .before .before .before .before .before .before .before .before .visit .result) ≢ posIn (c .before .before .before .before .before .before .before .before .before .before .before .before .before .before .before .loop .here) = λ e. c .before .before .before .before .before .before .before .before .if3 .left (c .before .before .before .before .before .before .before .before .before .before .before .before .end-of .ensures ∙ e ∙ sym (c .before .before .before .before .before .before .before .before .before .pos-of2 .ensures)) in q in
+    nearer _ _ _ _ _ (pre .0) (pre .1 .0 .0) (pre .1 .0 .1) (pre .1 .1) (c .before .before .before .before .before .before .before .before .before .before .before .before .before .before .before .loop .inv .0) _ (visit-row-visited t (c .before .before .before .before .before .before .before .before .before .before .before .before .before)) less other (rw (c .before .before .before .before .before .before .list-of .ensures) at (c .before .before .before .before .before .joined .ensures .1)) (c .before .before .before .enter-in-place .ensures .0) (let z = c .before .before .if4 .left in let q : c .before .before .before .enter-in-place .result ≡ 0 = omega arith in q)
 
 visit-row-loop-again : (t : ℕ) → visit-row-lts.Need-loop-again (visit-row-claims t) (visit-row-at t) visit-row.Post visit-row-Inv-loop visit-row-μ-loop
 visit-row-loop-again t c =
     let pre = c .before .before .before .before .before .before .before .before .before .before .before .before .before .before .before .before .before .before .pre .1 in
-    let match = matched (c .before .before .before .before .before .before .before .before .before .before .end-of .ensures) ((visit-row-visited t (c .before .before .before .before .before .before .before .before .before .before .before)) .came .end-most) (c .before .before .before .before .before .before .before .before .before .if1 .left) (c .before .before .before .before .before .before .before .before .if2 .left) in
-    let less = let e = c .before .before .before .before .before .before .before .before .before .before .end-of .ensures in let q : endIn (c .before .before .before .before .before .before .before .before .before .before .before .visit .result) < STOPPED = omega arith in q in
-    let other = let q : endIn (c .before .before .before .before .before .before .before .before .before .before .before .visit .result) ≢ c .before .before .before .before .before .before .before .before .before .before .before .before .before .before .loop .at = λ e. c .before .before .before .before .before .before .before .if3 .left (c .before .before .before .before .before .before .before .before .before .before .end-of .ensures ∙ e) in q in
-    (rw (c .before .before .before .before .before .before .before .before .before .before .end-of .ensures, c .list-of2 .ensures) (goes-on _ _ _ _ _ (pre .0) (pre .1 .0 .0) (pre .1 .0 .1) (pre .1 .1) (c .before .before .before .before .before .before .before .before .before .before .before .before .before .before .loop .inv .0) _ (visit-row-visited t (c .before .before .before .before .before .before .before .before .before .before .before)) less other (rw (c .before .before .before .before .before .list-of .ensures) at (c .before .before .before .before .joined .ensures .1)) (c .before .before .enter-in-place .ensures .0) (let z = c .before .if4 .left in let q : c .before .before .enter-in-place .result ≡ 0 = omega arith in q)), c .before .before .enter-in-place .ensures .1 ∙ c .before .before .before .before .before .before .before .before .before .before .before .visit .ensures .1 ∙ c .before .before .before .before .before .before .before .before .before .before .before .before .before .before .loop .inv .1)
+    let match = matched (c .before .before .before .before .before .before .before .before .before .before .before .before .end-of .ensures) ((visit-row-visited t (c .before .before .before .before .before .before .before .before .before .before .before .before .before)) .came .end-most) (c .before .before .before .before .before .before .before .before .before .before .before .if1 .left) (c .before .before .before .before .before .before .before .before .before .before .if2 .left) in
+    let less = let e = c .before .before .before .before .before .before .before .before .before .before .before .before .end-of .ensures in let q : endIn (c .before .before .before .before .before .before .before .before .before .before .before .before .before .visit .result) < STOPPED = omega arith in q in
+    let other = let q : endIn (c .before .before .before .before .before .before .before .before .before .before .before .before .before .visit .result) ≢ posIn (c .before .before .before .before .before .before .before .before .before .before .before .before .before .before .before .loop .here) = λ e. c .before .before .before .before .before .before .before .before .if3 .left (c .before .before .before .before .before .before .before .before .before .before .before .before .end-of .ensures ∙ e ∙ sym (c .before .before .before .before .before .before .before .before .before .pos-of2 .ensures)) in q in
+    let on = c .moved .ensures in
+    let here = c .before .before .before .before .before .before .before .before .before .before .before .before .before .before .before .loop .inv .1 .0 in
+    (rw (on .there, c .before .before .before .before .before .before .before .before .before .before .before .before .end-of .ensures, c .before .list-of2 .ensures) (goes-on _ _ _ _ _ (pre .0) (pre .1 .0 .0) (pre .1 .0 .1) (pre .1 .1) (c .before .before .before .before .before .before .before .before .before .before .before .before .before .before .before .loop .inv .0) _ (visit-row-visited t (c .before .before .before .before .before .before .before .before .before .before .before .before .before)) less other (rw (c .before .before .before .before .before .before .list-of .ensures) at (c .before .before .before .before .before .joined .ensures .1)) (c .before .before .before .enter-in-place .ensures .0) (let z = c .before .before .if4 .left in let q : c .before .before .before .enter-in-place .result ≡ 0 = omega arith in q)), (record { left = on .left ∙ here .left; live = on .live ∙ here .live; there = refl }, c .before .before .before .enter-in-place .ensures .1 ∙ c .before .before .before .before .before .before .before .before .before .before .before .before .before .visit .ensures .1 ∙ c .before .before .before .before .before .before .before .before .before .before .before .before .before .before .before .loop .inv .1 .1))
+
+visit-row-returns : (t : ℕ) → visit-row-lts.Need-returns (visit-row-claims t) (visit-row-at t) visit-row.Post visit-row-Inv-loop visit-row-μ-loop
+visit-row-returns t c =
+    let pre = c .before .before .before .before .before .before .before .pre .1 in
+    (refuses _ _ _ _ _ (pre .0) (pre .1 .0 .0) (pre .1 .0 .1) (pre .1 .1) (c .before .before .before .before .loop .inv .0) _ (visit-row-visited t (c .before .before)) (sym (c .before .end-of .ensures) ∙ c .if1 .taken), c .before .before .visit .ensures .1 ∙ c .before .before .before .before .loop .inv .1 .1)
+
+visit-row-returns-2 : (t : ℕ) → visit-row-lts.Need-returns-2 (visit-row-claims t) (visit-row-at t) visit-row.Post visit-row-Inv-loop visit-row-μ-loop
+visit-row-returns-2 t c =
+    let pre = c .before .before .before .before .before .before .before .before .before .before .pre .1 in
+    (ends _ _ _ _ _ (pre .0) (pre .1 .0 .0) (pre .1 .0 .1) (pre .1 .1) (c .before .before .before .before .before .before .before .loop .inv .0) _ (visit-row-visited t (c .before .before .before .before .before)) (inl (sym (c .before .before .before .before .end-of .ensures) ∙ c .before .before .if2 .taken)) _ (c .answer .ensures .0 ∙ c .before .pos-of .ensures) (c .answer .ensures .1), c .before .before .before .before .before .visit .ensures .1 ∙ c .before .before .before .before .before .before .before .loop .inv .1 .1)
+
+visit-row-returns-3 : (t : ℕ) → visit-row-lts.Need-returns-3 (visit-row-claims t) (visit-row-at t) visit-row.Post visit-row-Inv-loop visit-row-μ-loop
+visit-row-returns-3 t c =
+    let pre = c .before .before .before .before .before .before .before .before .before .before .before .pre .1 in
+    let there = c .before .if3 .taken ∙ c .before .before .pos-of2 .ensures in
+    (ends _ _ _ _ _ (pre .0) (pre .1 .0 .0) (pre .1 .0 .1) (pre .1 .1) (c .before .before .before .before .before .before .before .before .loop .inv .0) _ (visit-row-visited t (c .before .before .before .before .before .before)) (inr (sym (c .before .before .before .before .before .end-of .ensures) ∙ there)) _ (c .answer2 .ensures .0 ∙ there) (c .answer2 .ensures .1), c .before .before .before .before .before .before .visit .ensures .1 ∙ c .before .before .before .before .before .before .before .before .loop .inv .1 .1)
+
+visit-row-returns-4 : (t : ℕ) → visit-row-lts.Need-returns-4 (visit-row-claims t) (visit-row-at t) visit-row.Post visit-row-Inv-loop visit-row-μ-loop
+visit-row-returns-4 t c =
+    let pre = c .before .before .before .before .before .before .before .before .before .before .before .before .before .before .before .before .before .pre .1 in
+    let match = matched (c .before .before .before .before .before .before .before .before .before .before .before .end-of .ensures) ((visit-row-visited t (c .before .before .before .before .before .before .before .before .before .before .before .before)) .came .end-most) (c .before .before .before .before .before .before .before .before .before .before .if1 .left) (c .before .before .before .before .before .before .before .before .before .if2 .left) in
+    let less = let e = c .before .before .before .before .before .before .before .before .before .before .before .end-of .ensures in let q : endIn (c .before .before .before .before .before .before .before .before .before .before .before .before .visit .result) < STOPPED = omega arith in q in
+    let other = let q : endIn (c .before .before .before .before .before .before .before .before .before .before .before .before .visit .result) ≢ posIn (c .before .before .before .before .before .before .before .before .before .before .before .before .before .before .loop .here) = λ e. c .before .before .before .before .before .before .before .if3 .left (c .before .before .before .before .before .before .before .before .before .before .before .end-of .ensures ∙ e ∙ sym (c .before .before .before .before .before .before .before .before .pos-of2 .ensures)) in q in
+    (full _ _ _ _ _ (pre .0) (pre .1 .0 .0) (pre .1 .0 .1) (pre .1 .1) (c .before .before .before .before .before .before .before .before .before .before .before .before .before .before .loop .inv .0) _ (visit-row-visited t (c .before .before .before .before .before .before .before .before .before .before .before .before)) less other (rw (c .before .before .before .before .before .list-of .ensures) at (c .before .before .before .before .joined .ensures .1)) (c .before .before .enter-in-place .ensures .0) (c .before .if4 .taken) _ (c .answer3 .ensures .0) (c .answer3 .ensures .1 ∙ ap (λ n. c .before .before .enter-in-place .result * 4096 + n) (c .before .before .before .before .before .before .before .before .before .before .before .end-of .ensures)), c .before .before .enter-in-place .ensures .1 ∙ c .before .before .before .before .before .before .before .before .before .before .before .before .visit .ensures .1 ∙ c .before .before .before .before .before .before .before .before .before .before .before .before .before .before .loop .inv .1 .1)
 
 -- All of it.
 pub visit-row-closed : (M : Type 1) (t : ℕ) → visit-row-lts.Closed (visit-row-claims t) (visit-row-at t) visit-row.Post M
@@ -162,12 +172,12 @@ visit-row-closed M t =
     visit-row-Inv-loop
     visit-row-μ-loop
     (visit-row-a-of-requires t)
-    (visit-row-pos-of-requires t)
     (visit-row-loop-holds t)
-    (visit-row-moved-requires t)
     (visit-row-visit-requires t)
     (visit-row-end-of-requires t)
+    (visit-row-pos-of-requires t)
     (visit-row-answer-requires t)
+    (visit-row-pos-of-requires-2 t)
     (visit-row-answer-requires-2 t)
     (visit-row-slice-aggregate-joined t)
     (visit-row-list-of-requires t)
@@ -177,6 +187,7 @@ visit-row-closed M t =
     (visit-row-add-answer t)
     (visit-row-answer-requires-3 t)
     (visit-row-list-of-requires-2 t)
+    (visit-row-moved-requires t)
     (visit-row-loop-less t)
     (visit-row-loop-again t)
     (visit-row-returns t)
