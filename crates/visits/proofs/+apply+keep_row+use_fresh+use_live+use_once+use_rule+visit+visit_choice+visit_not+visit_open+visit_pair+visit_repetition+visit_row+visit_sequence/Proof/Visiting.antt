@@ -29,7 +29,32 @@ use Rattle.visits.proofs.Opening.{roomy, kept-answered, open-applied, O
 use Rattle.visits.proofs.+apply+keep_row+use_fresh+use_live+use_once+use_rule+visit+visit_choice+visit_not+visit_open+visit_pair+visit_repetition+visit_row+visit_sequence.Proof.Ranks.{apply-below, visit-at, visit-open-below}
 
 abbrev visit-claims : ℕ → visit-lts.Claims
-visit-claims t = (enter-reads.Asked, enter-reads.Learnt, pos-of-reads.Asked, pos-of-reads.Learnt, answer-reads.Asked, answer-reads.Learnt, visit-open-below t, visit-open.Post, kept-word-reads.Asked, kept-word-reads.Learnt, kept-answer-reads.Asked, kept-answer-reads.Learnt, kind-of-reads.Asked, kind-of-reads.Learnt, visit-range-reads.Asked, visit-range-reads.Learnt, end-of-reads.Asked, end-of-reads.Learnt, list-of-reads.Asked, list-of-reads.Learnt, keep-reads.Asked, keep-reads.Learnt, apply-below t, apply.Post)
+visit-claims t = (
+  enter-reads.Asked,
+  enter-reads.Learnt,
+  pos-of-reads.Asked,
+  pos-of-reads.Learnt,
+  answer-reads.Asked,
+  answer-reads.Learnt,
+  visit-open-below t,
+  visit-open.Post,
+  kept-word-reads.Asked,
+  kept-word-reads.Learnt,
+  kept-answer-reads.Asked,
+  kept-answer-reads.Learnt,
+  kind-of-reads.Asked,
+  kind-of-reads.Learnt,
+  visit-range-reads.Asked,
+  visit-range-reads.Learnt,
+  end-of-reads.Asked,
+  end-of-reads.Learnt,
+  list-of-reads.Asked,
+  list-of-reads.Learnt,
+  keep-reads.Asked,
+  keep-reads.Learnt,
+  apply-below t,
+  apply.Post,
+)
 
 -- What a visit is handed.
 abbrev Began : ℕ → Type 0
@@ -190,7 +215,9 @@ visit-returns-4 t c =
     let k = visit-looked t (c .before .before .before .before .before .before .before .before .before .before .before .before .before) in
     let there = c .before .before .before .before .before .before .before .before .before .before .before .before .before .before .before .before .pos-of2 .ensures ∙ sym (o .there) in
     let ranged = visit-ranged t (c .before .before .before .before .before) in
-    let none = let q : getD (c .before .before .before .before .before .before .before .before .before .before .before .before .before .before .before .before .before .before .before .before .enter .last .1 .0 .now) (placeIn (given-at t start) (line-at t start) (start .args .node) (posIn (start .args .spot - 1))) 0 ≡ 0 = omega (arith, k .is, c .before .before .before .before .before .before .before .before .before .before .before .before .if3 .left) in q in
+    let at-enter = c .before .before .before .before .before .before .before .before .before .before .before .before .before .before .before .before .before .before .before .before .enter in
+    let at-if3 = c .before .before .before .before .before .before .before .before .before .before .before .before .if3 in
+    let none = let q : getD (at-enter .last .1 .0 .now) (placeIn (given-at t start) (line-at t start) (start .args .node) (posIn (start .args .spot - 1))) 0 ≡ 0 = omega (arith, k .is, at-if3 .left) in q in
     let kept = rw (there, c .before .before .end-of .ensures, c .before .list-of .ensures) at (c .keep .ensures) in
     let applied = open-applied _ _ _ _ _ _ (o .starts) (o .space) (keeps-yes _ (c .before .before .before .before .before .before .before .before .before .before .before .before .before .before .before .before .before .if2 .left)) _ refl _ none _ _ ranged kept in
     (opened _ _ _ _ _ (start .pre .1) o _ _ applied, c .before .before .before .before .before .visit-range .ensures .1 .1 ∙ visit-lent t (c .before .before .before .before .before .before .before .before .before .before .before .before .before))
@@ -205,7 +232,9 @@ visit-apply-requires t c κs =
     let o = visit-opened t (c .before .before .before .before .before .before .before .before .before .before .before) in
     let k = visit-looked t (c .before .before .before .before .before) in
     let free = keeps-yes _ (c .before .before .before .before .before .before .before .before .before .if2 .left) in
-    let none = let q : getD (c .before .before .before .before .before .before .before .before .before .before .before .before .enter .last .1 .0 .now) (placeIn (given-at t start) (line-at t start) (start .args .node) (posIn (start .args .spot - 1))) 0 ≡ 0 = omega (arith, k .is, c .before .before .before .before .if3 .left) in q in
+    let at-enter = c .before .before .before .before .before .before .before .before .before .before .before .before .enter in
+    let at-if3 = c .before .before .before .before .if3 in
+    let none = let q : getD (at-enter .last .1 .0 .now) (placeIn (given-at t start) (line-at t start) (start .args .node) (posIn (start .args .spot - 1))) 0 ≡ 0 = omega (arith, k .is, at-if3 .left) in q in
     (omega (arith, start .pre .0, left-less (start .args .spot) (o .some)), (rw (k .same) (o .starts), (o .space, (λ _. free, λ _. rw (k .same) none))))
 
 visit-returns-5 : (t : ℕ) → visit-lts.Need-returns-5 (visit-claims t) (visit-at t) visit.Post

@@ -56,10 +56,13 @@ visit-row-loop-holds t c =
 
 visit-row-visit-requires : (t : ℕ) → visit-row-lts.Need-visit-requires (visit-row-claims t) (visit-row-at t) visit-row.Post visit-row-Inv-loop visit-row-μ-loop
 visit-row-visit-requires t c κs =
-    let pre = c .before .before .before .before .pre .1 in
-    let x = c .before .before .a-of .ensures .0 in
-    let here = c .before .loop .inv .1 .0 in
-    (omega (arith, c .before .before .before .before .pre .0, here .left), rw x (starts-moved _ _ here _ (child-starts _ _ _ _ _ (pre .0) (pre .1 .0 .0) (pre .1 .0 .1) (pre .1 .1) (c .before .loop .inv .0) (repetition-child _ _ (pre .0 .fit) _ (pre .0 .node-in) (pre .1 .0 .1)))))
+    let at-start = c .before .before .before .before in
+    let at-a-of = c .before .before .a-of in
+    let at-loop = c .before .loop in
+    let pre = at-start .pre .1 in
+    let x = at-a-of .ensures .0 in
+    let here = at-loop .inv .1 .0 in
+    (omega (arith, at-start .pre .0, here .left), rw x (starts-moved _ _ here _ (child-starts _ _ _ _ _ (pre .0) (pre .1 .0 .0) (pre .1 .0 .1) (pre .1 .1) (at-loop .inv .0) (repetition-child _ _ (pre .0 .fit) _ (pre .0 .node-in) (pre .1 .0 .1)))))
 
 visit-row-end-of-requires : (t : ℕ) → visit-row-lts.Need-end-of-requires (visit-row-claims t) (visit-row-at t) visit-row.Post visit-row-Inv-loop visit-row-μ-loop
 visit-row-end-of-requires t c κs = tt
@@ -93,18 +96,37 @@ visit-row-slice-aggregate-joined t c = refl
 
 visit-row-joined-requires : (t : ℕ) → visit-row-lts.Need-joined-requires (visit-row-claims t) (visit-row-at t) visit-row.Post visit-row-Inv-loop visit-row-μ-loop
 visit-row-joined-requires t c κs =
-    let pre = c .before .before .before .before .before .before .before .before .before .before .before .before .pre .1 in
-    let match = matched (c .before .before .before .before .before .before .end-of .ensures) ((visit-row-visited t (c .before .before .before .before .before .before .before)) .came .end-most) (c .before .before .before .before .before .if1 .left) (c .before .before .before .before .if2 .left) in
-    let less = let e = c .before .before .before .before .before .before .end-of .ensures in let q : endIn (c .before .before .before .before .before .before .before .visit .result) < STOPPED = omega arith in q in
-    join-ready _ _ _ _ _ (pre .0) (pre .1 .0 .0) (pre .1 .0 .1) (pre .1 .1) (c .before .before .before .before .before .before .before .before .before .loop .inv .0) _ (visit-row-visited t (c .before .before .before .before .before .before .before)) less _ (c .list-of .ensures)
+    let at-start = c .before .before .before .before .before .before .before .before .before .before .before .before in
+    let at-end-of = c .before .before .before .before .before .before .end-of in
+    let at-if1 = c .before .before .before .before .before .if1 in
+    let at-if2 = c .before .before .before .before .if2 in
+    let at-visit = c .before .before .before .before .before .before .before .visit in
+    let at-loop = c .before .before .before .before .before .before .before .before .before .loop in
+    let at-list-of = c .list-of in
+    let the-visited = visit-row-visited t (c .before .before .before .before .before .before .before) in
+    let pre = at-start .pre .1 in
+    let match = matched (at-end-of .ensures) (the-visited .came .end-most) (at-if1 .left) (at-if2 .left) in
+    let less = let e = at-end-of .ensures in let q : endIn (at-visit .result) < STOPPED = omega arith in q in
+    join-ready _ _ _ _ _ (pre .0) (pre .1 .0 .0) (pre .1 .0 .1) (pre .1 .1) (at-loop .inv .0) _ the-visited less _ (at-list-of .ensures)
 
 visit-row-enter-in-place-requires : (t : ℕ) → visit-row-lts.Need-enter-in-place-requires (visit-row-claims t) (visit-row-at t) visit-row.Post visit-row-Inv-loop visit-row-μ-loop
 visit-row-enter-in-place-requires t c κs =
-    let pre = c .before .before .before .before .before .before .before .before .before .before .before .before .before .before .pre .1 in
-    let match = matched (c .before .before .before .before .before .before .before .before .end-of .ensures) ((visit-row-visited t (c .before .before .before .before .before .before .before .before .before)) .came .end-most) (c .before .before .before .before .before .before .before .if1 .left) (c .before .before .before .before .before .before .if2 .left) in
-    let less = let e = c .before .before .before .before .before .before .before .before .end-of .ensures in let q : endIn (c .before .before .before .before .before .before .before .before .before .visit .result) < STOPPED = omega arith in q in
-    let other = let q : endIn (c .before .before .before .before .before .before .before .before .before .visit .result) ≢ posIn (c .before .before .before .before .before .before .before .before .before .before .before .loop .here) = λ e. c .before .before .before .before .if3 .left (c .before .before .before .before .before .before .before .before .end-of .ensures ∙ e ∙ sym (c .before .before .before .before .before .pos-of2 .ensures)) in q in
-    (long _ _ _ _ _ (pre .0) (pre .1 .0 .0) (pre .1 .0 .1) (pre .1 .1) (c .before .before .before .before .before .before .before .before .before .before .before .loop .inv .0) _ (visit-row-visited t (c .before .before .before .before .before .before .before .before .before)) less other (rw (c .before .before .list-of .ensures) at (c .before .joined .ensures .1)), pre .0 .fit .allowance)
+    let at-start = c .before .before .before .before .before .before .before .before .before .before .before .before .before .before in
+    let at-end-of = c .before .before .before .before .before .before .before .before .end-of in
+    let at-if1 = c .before .before .before .before .before .before .before .if1 in
+    let at-if2 = c .before .before .before .before .before .before .if2 in
+    let at-visit = c .before .before .before .before .before .before .before .before .before .visit in
+    let at-loop = c .before .before .before .before .before .before .before .before .before .before .before .loop in
+    let at-if3 = c .before .before .before .before .if3 in
+    let at-pos-of2 = c .before .before .before .before .before .pos-of2 in
+    let at-list-of = c .before .before .list-of in
+    let at-joined = c .before .joined in
+    let the-visited = visit-row-visited t (c .before .before .before .before .before .before .before .before .before) in
+    let pre = at-start .pre .1 in
+    let match = matched (at-end-of .ensures) (the-visited .came .end-most) (at-if1 .left) (at-if2 .left) in
+    let less = let e = at-end-of .ensures in let q : endIn (at-visit .result) < STOPPED = omega arith in q in
+    let other = let q : endIn (at-visit .result) ≢ posIn (at-loop .here) = λ e. at-if3 .left (at-end-of .ensures ∙ e ∙ sym (at-pos-of2 .ensures)) in q in
+    (long _ _ _ _ _ (pre .0) (pre .1 .0 .0) (pre .1 .0 .1) (pre .1 .1) (at-loop .inv .0) _ the-visited less other (rw (at-list-of .ensures) at (at-joined .ensures .1)), pre .0 .fit .allowance)
 
 visit-row-mul-answer : (t : ℕ) → visit-row-lts.Need-mul-answer (visit-row-claims t) (visit-row-at t) visit-row.Post visit-row-Inv-loop visit-row-μ-loop
 visit-row-mul-answer t c =
@@ -113,55 +135,131 @@ visit-row-mul-answer t c =
 
 visit-row-add-answer : (t : ℕ) → visit-row-lts.Need-add-answer (visit-row-claims t) (visit-row-at t) visit-row.Post visit-row-Inv-loop visit-row-μ-loop
 visit-row-add-answer t c =
-    let small = full-small (c .before .enter-in-place .ensures .0) in
-    let ends = c .before .before .before .before .before .before .before .before .before .before .end-of .ensures in
-    let visited = visit-row-visited t (c .before .before .before .before .before .before .before .before .before .before .before) in
-    let match = matched ends (visited .came .end-most) (c .before .before .before .before .before .before .before .before .before .if1 .left) (c .before .before .before .before .before .before .before .before .if2 .left) in
-    let less = let q : endIn (c .before .before .before .before .before .before .before .before .before .before .before .visit .result) < STOPPED = omega arith in q in
-    let inside = visited .came .end-in less in
-    omega (arith, small, inside, ends, c .before .before .before .before .before .before .before .before .before .before .before .before .before .before .before .before .pre .1 .0 .fit .short)
+    let at-enter-in-place = c .before .enter-in-place in
+    let at-end-of = c .before .before .before .before .before .before .before .before .before .before .end-of in
+    let at-if1 = c .before .before .before .before .before .before .before .before .before .if1 in
+    let at-if2 = c .before .before .before .before .before .before .before .before .if2 in
+    let at-visit = c .before .before .before .before .before .before .before .before .before .before .before .visit in
+    let at-start = c .before .before .before .before .before .before .before .before .before .before .before .before .before .before .before .before in
+    let the-visited = visit-row-visited t (c .before .before .before .before .before .before .before .before .before .before .before) in
+    let small = full-small (at-enter-in-place .ensures .0) in
+    let ends = at-end-of .ensures in
+    let match = matched ends (the-visited .came .end-most) (at-if1 .left) (at-if2 .left) in
+    let less = let q : endIn (at-visit .result) < STOPPED = omega arith in q in
+    let inside = the-visited .came .end-in less in
+    omega (arith, small, inside, ends, at-start .pre .1 .0 .fit .short)
 
 visit-row-loop-less : (t : ℕ) → visit-row-lts.Need-loop-less (visit-row-claims t) (visit-row-at t) visit-row.Post visit-row-Inv-loop visit-row-μ-loop
 visit-row-loop-less t c =
-    let pre = c .before .before .before .before .before .before .before .before .before .before .before .before .before .before .before .before .before .before .pre .1 in
-    let match = matched (c .before .before .before .before .before .before .before .before .before .before .before .before .end-of .ensures) ((visit-row-visited t (c .before .before .before .before .before .before .before .before .before .before .before .before .before)) .came .end-most) (c .before .before .before .before .before .before .before .before .before .before .before .if1 .left) (c .before .before .before .before .before .before .before .before .before .before .if2 .left) in
-    let less = let e = c .before .before .before .before .before .before .before .before .before .before .before .before .end-of .ensures in let q : endIn (c .before .before .before .before .before .before .before .before .before .before .before .before .before .visit .result) < STOPPED = omega arith in q in
-    let other = let q : endIn (c .before .before .before .before .before .before .before .before .before .before .before .before .before .visit .result) ≢ posIn (c .before .before .before .before .before .before .before .before .before .before .before .before .before .before .before .loop .here) = λ e. c .before .before .before .before .before .before .before .before .if3 .left (c .before .before .before .before .before .before .before .before .before .before .before .before .end-of .ensures ∙ e ∙ sym (c .before .before .before .before .before .before .before .before .before .pos-of2 .ensures)) in q in
-    nearer _ _ _ _ _ (pre .0) (pre .1 .0 .0) (pre .1 .0 .1) (pre .1 .1) (c .before .before .before .before .before .before .before .before .before .before .before .before .before .before .before .loop .inv .0) _ (visit-row-visited t (c .before .before .before .before .before .before .before .before .before .before .before .before .before)) less other (rw (c .before .before .before .before .before .before .list-of .ensures) at (c .before .before .before .before .before .joined .ensures .1)) (c .before .before .before .enter-in-place .ensures .0) (let z = c .before .before .if4 .left in let q : c .before .before .before .enter-in-place .result ≡ 0 = omega arith in q)
+    let at-start = c .before .before .before .before .before .before .before .before .before .before .before .before .before .before .before .before .before .before in
+    let at-end-of = c .before .before .before .before .before .before .before .before .before .before .before .before .end-of in
+    let at-if1 = c .before .before .before .before .before .before .before .before .before .before .before .if1 in
+    let at-if2 = c .before .before .before .before .before .before .before .before .before .before .if2 in
+    let at-visit = c .before .before .before .before .before .before .before .before .before .before .before .before .before .visit in
+    let at-loop = c .before .before .before .before .before .before .before .before .before .before .before .before .before .before .before .loop in
+    let at-if3 = c .before .before .before .before .before .before .before .before .if3 in
+    let at-pos-of2 = c .before .before .before .before .before .before .before .before .before .pos-of2 in
+    let at-list-of = c .before .before .before .before .before .before .list-of in
+    let at-joined = c .before .before .before .before .before .joined in
+    let at-enter-in-place = c .before .before .before .enter-in-place in
+    let at-if4 = c .before .before .if4 in
+    let the-visited = visit-row-visited t (c .before .before .before .before .before .before .before .before .before .before .before .before .before) in
+    let pre = at-start .pre .1 in
+    let match = matched (at-end-of .ensures) (the-visited .came .end-most) (at-if1 .left) (at-if2 .left) in
+    let less = let e = at-end-of .ensures in let q : endIn (at-visit .result) < STOPPED = omega arith in q in
+    let other = let q : endIn (at-visit .result) ≢ posIn (at-loop .here) = λ e. at-if3 .left (at-end-of .ensures ∙ e ∙ sym (at-pos-of2 .ensures)) in q in
+    nearer _ _ _ _ _ (pre .0) (pre .1 .0 .0) (pre .1 .0 .1) (pre .1 .1) (at-loop .inv .0) _ the-visited less other (rw (at-list-of .ensures) at (at-joined .ensures .1)) (at-enter-in-place .ensures .0) (let z = at-if4 .left in let q : at-enter-in-place .result ≡ 0 = omega arith in q)
 
 visit-row-loop-again : (t : ℕ) → visit-row-lts.Need-loop-again (visit-row-claims t) (visit-row-at t) visit-row.Post visit-row-Inv-loop visit-row-μ-loop
 visit-row-loop-again t c =
-    let pre = c .before .before .before .before .before .before .before .before .before .before .before .before .before .before .before .before .before .before .pre .1 in
-    let match = matched (c .before .before .before .before .before .before .before .before .before .before .before .before .end-of .ensures) ((visit-row-visited t (c .before .before .before .before .before .before .before .before .before .before .before .before .before)) .came .end-most) (c .before .before .before .before .before .before .before .before .before .before .before .if1 .left) (c .before .before .before .before .before .before .before .before .before .before .if2 .left) in
-    let less = let e = c .before .before .before .before .before .before .before .before .before .before .before .before .end-of .ensures in let q : endIn (c .before .before .before .before .before .before .before .before .before .before .before .before .before .visit .result) < STOPPED = omega arith in q in
-    let other = let q : endIn (c .before .before .before .before .before .before .before .before .before .before .before .before .before .visit .result) ≢ posIn (c .before .before .before .before .before .before .before .before .before .before .before .before .before .before .before .loop .here) = λ e. c .before .before .before .before .before .before .before .before .if3 .left (c .before .before .before .before .before .before .before .before .before .before .before .before .end-of .ensures ∙ e ∙ sym (c .before .before .before .before .before .before .before .before .before .pos-of2 .ensures)) in q in
-    let on = c .moved .ensures in
-    let here = c .before .before .before .before .before .before .before .before .before .before .before .before .before .before .before .loop .inv .1 .0 in
-    (rw (on .there, c .before .before .before .before .before .before .before .before .before .before .before .before .end-of .ensures, c .before .list-of2 .ensures) (goes-on _ _ _ _ _ (pre .0) (pre .1 .0 .0) (pre .1 .0 .1) (pre .1 .1) (c .before .before .before .before .before .before .before .before .before .before .before .before .before .before .before .loop .inv .0) _ (visit-row-visited t (c .before .before .before .before .before .before .before .before .before .before .before .before .before)) less other (rw (c .before .before .before .before .before .before .list-of .ensures) at (c .before .before .before .before .before .joined .ensures .1)) (c .before .before .before .enter-in-place .ensures .0) (let z = c .before .before .if4 .left in let q : c .before .before .before .enter-in-place .result ≡ 0 = omega arith in q)), (record { left = on .left ∙ here .left; live = on .live ∙ here .live; there = refl }, c .before .before .before .enter-in-place .ensures .1 ∙ c .before .before .before .before .before .before .before .before .before .before .before .before .before .visit .ensures .1 ∙ c .before .before .before .before .before .before .before .before .before .before .before .before .before .before .before .loop .inv .1 .1))
+    let at-start = c .before .before .before .before .before .before .before .before .before .before .before .before .before .before .before .before .before .before in
+    let at-end-of = c .before .before .before .before .before .before .before .before .before .before .before .before .end-of in
+    let at-if1 = c .before .before .before .before .before .before .before .before .before .before .before .if1 in
+    let at-if2 = c .before .before .before .before .before .before .before .before .before .before .if2 in
+    let at-visit = c .before .before .before .before .before .before .before .before .before .before .before .before .before .visit in
+    let at-loop = c .before .before .before .before .before .before .before .before .before .before .before .before .before .before .before .loop in
+    let at-if3 = c .before .before .before .before .before .before .before .before .if3 in
+    let at-pos-of2 = c .before .before .before .before .before .before .before .before .before .pos-of2 in
+    let at-moved = c .moved in
+    let at-list-of2 = c .before .list-of2 in
+    let at-list-of = c .before .before .before .before .before .before .list-of in
+    let at-joined = c .before .before .before .before .before .joined in
+    let at-enter-in-place = c .before .before .before .enter-in-place in
+    let at-if4 = c .before .before .if4 in
+    let the-visited = visit-row-visited t (c .before .before .before .before .before .before .before .before .before .before .before .before .before) in
+    let pre = at-start .pre .1 in
+    let match = matched (at-end-of .ensures) (the-visited .came .end-most) (at-if1 .left) (at-if2 .left) in
+    let less = let e = at-end-of .ensures in let q : endIn (at-visit .result) < STOPPED = omega arith in q in
+    let other = let q : endIn (at-visit .result) ≢ posIn (at-loop .here) = λ e. at-if3 .left (at-end-of .ensures ∙ e ∙ sym (at-pos-of2 .ensures)) in q in
+    let on = at-moved .ensures in
+    let here = at-loop .inv .1 .0 in
+    let both = rw (at-list-of .ensures) at (at-joined .ensures .1) in
+    let entered = let z = at-if4 .left in let q : at-enter-in-place .result ≡ 0 = omega arith in q in
+    let next = goes-on _ _ _ _ _ (pre .0) (pre .1 .0 .0) (pre .1 .0 .1) (pre .1 .1) (at-loop .inv .0) _ the-visited less other both (at-enter-in-place .ensures .0) entered in
+    (rw (on .there, at-end-of .ensures, at-list-of2 .ensures) next, (record { left = on .left ∙ here .left; live = on .live ∙ here .live; there = refl }, at-enter-in-place .ensures .1 ∙ at-visit .ensures .1 ∙ at-loop .inv .1 .1))
 
 visit-row-returns : (t : ℕ) → visit-row-lts.Need-returns (visit-row-claims t) (visit-row-at t) visit-row.Post visit-row-Inv-loop visit-row-μ-loop
 visit-row-returns t c =
-    let pre = c .before .before .before .before .before .before .before .pre .1 in
-    (refuses _ _ _ _ _ (pre .0) (pre .1 .0 .0) (pre .1 .0 .1) (pre .1 .1) (c .before .before .before .before .loop .inv .0) _ (visit-row-visited t (c .before .before)) (sym (c .before .end-of .ensures) ∙ c .if1 .taken), c .before .before .visit .ensures .1 ∙ c .before .before .before .before .loop .inv .1 .1)
+    let at-start = c .before .before .before .before .before .before .before in
+    let at-loop = c .before .before .before .before .loop in
+    let at-end-of = c .before .end-of in
+    let at-if1 = c .if1 in
+    let at-visit = c .before .before .visit in
+    let the-visited = visit-row-visited t (c .before .before) in
+    let pre = at-start .pre .1 in
+    (refuses _ _ _ _ _ (pre .0) (pre .1 .0 .0) (pre .1 .0 .1) (pre .1 .1) (at-loop .inv .0) _ the-visited (sym (at-end-of .ensures) ∙ at-if1 .taken), at-visit .ensures .1 ∙ at-loop .inv .1 .1)
 
 visit-row-returns-2 : (t : ℕ) → visit-row-lts.Need-returns-2 (visit-row-claims t) (visit-row-at t) visit-row.Post visit-row-Inv-loop visit-row-μ-loop
 visit-row-returns-2 t c =
-    let pre = c .before .before .before .before .before .before .before .before .before .before .pre .1 in
-    (ends _ _ _ _ _ (pre .0) (pre .1 .0 .0) (pre .1 .0 .1) (pre .1 .1) (c .before .before .before .before .before .before .before .loop .inv .0) _ (visit-row-visited t (c .before .before .before .before .before)) (inl (sym (c .before .before .before .before .end-of .ensures) ∙ c .before .before .if2 .taken)) _ (c .answer .ensures .0 ∙ c .before .pos-of .ensures) (c .answer .ensures .1), c .before .before .before .before .before .visit .ensures .1 ∙ c .before .before .before .before .before .before .before .loop .inv .1 .1)
+    let at-start = c .before .before .before .before .before .before .before .before .before .before in
+    let at-loop = c .before .before .before .before .before .before .before .loop in
+    let at-end-of = c .before .before .before .before .end-of in
+    let at-if2 = c .before .before .if2 in
+    let at-answer = c .answer in
+    let at-pos-of = c .before .pos-of in
+    let at-visit = c .before .before .before .before .before .visit in
+    let the-visited = visit-row-visited t (c .before .before .before .before .before) in
+    let pre = at-start .pre .1 in
+    (ends _ _ _ _ _ (pre .0) (pre .1 .0 .0) (pre .1 .0 .1) (pre .1 .1) (at-loop .inv .0) _ the-visited (inl (sym (at-end-of .ensures) ∙ at-if2 .taken)) _ (at-answer .ensures .0 ∙ at-pos-of .ensures) (at-answer .ensures .1), at-visit .ensures .1 ∙ at-loop .inv .1 .1)
 
 visit-row-returns-3 : (t : ℕ) → visit-row-lts.Need-returns-3 (visit-row-claims t) (visit-row-at t) visit-row.Post visit-row-Inv-loop visit-row-μ-loop
 visit-row-returns-3 t c =
-    let pre = c .before .before .before .before .before .before .before .before .before .before .before .pre .1 in
-    let there = c .before .if3 .taken ∙ c .before .before .pos-of2 .ensures in
-    (ends _ _ _ _ _ (pre .0) (pre .1 .0 .0) (pre .1 .0 .1) (pre .1 .1) (c .before .before .before .before .before .before .before .before .loop .inv .0) _ (visit-row-visited t (c .before .before .before .before .before .before)) (inr (sym (c .before .before .before .before .before .end-of .ensures) ∙ there)) _ (c .answer2 .ensures .0 ∙ there) (c .answer2 .ensures .1), c .before .before .before .before .before .before .visit .ensures .1 ∙ c .before .before .before .before .before .before .before .before .loop .inv .1 .1)
+    let at-start = c .before .before .before .before .before .before .before .before .before .before .before in
+    let at-if3 = c .before .if3 in
+    let at-pos-of2 = c .before .before .pos-of2 in
+    let at-loop = c .before .before .before .before .before .before .before .before .loop in
+    let at-end-of = c .before .before .before .before .before .end-of in
+    let at-answer2 = c .answer2 in
+    let at-visit = c .before .before .before .before .before .before .visit in
+    let the-visited = visit-row-visited t (c .before .before .before .before .before .before) in
+    let pre = at-start .pre .1 in
+    let there = at-if3 .taken ∙ at-pos-of2 .ensures in
+    (ends _ _ _ _ _ (pre .0) (pre .1 .0 .0) (pre .1 .0 .1) (pre .1 .1) (at-loop .inv .0) _ the-visited (inr (sym (at-end-of .ensures) ∙ there)) _ (at-answer2 .ensures .0 ∙ there) (at-answer2 .ensures .1), at-visit .ensures .1 ∙ at-loop .inv .1 .1)
 
 visit-row-returns-4 : (t : ℕ) → visit-row-lts.Need-returns-4 (visit-row-claims t) (visit-row-at t) visit-row.Post visit-row-Inv-loop visit-row-μ-loop
 visit-row-returns-4 t c =
-    let pre = c .before .before .before .before .before .before .before .before .before .before .before .before .before .before .before .before .before .pre .1 in
-    let match = matched (c .before .before .before .before .before .before .before .before .before .before .before .end-of .ensures) ((visit-row-visited t (c .before .before .before .before .before .before .before .before .before .before .before .before)) .came .end-most) (c .before .before .before .before .before .before .before .before .before .before .if1 .left) (c .before .before .before .before .before .before .before .before .before .if2 .left) in
-    let less = let e = c .before .before .before .before .before .before .before .before .before .before .before .end-of .ensures in let q : endIn (c .before .before .before .before .before .before .before .before .before .before .before .before .visit .result) < STOPPED = omega arith in q in
-    let other = let q : endIn (c .before .before .before .before .before .before .before .before .before .before .before .before .visit .result) ≢ posIn (c .before .before .before .before .before .before .before .before .before .before .before .before .before .before .loop .here) = λ e. c .before .before .before .before .before .before .before .if3 .left (c .before .before .before .before .before .before .before .before .before .before .before .end-of .ensures ∙ e ∙ sym (c .before .before .before .before .before .before .before .before .pos-of2 .ensures)) in q in
-    (full _ _ _ _ _ (pre .0) (pre .1 .0 .0) (pre .1 .0 .1) (pre .1 .1) (c .before .before .before .before .before .before .before .before .before .before .before .before .before .before .loop .inv .0) _ (visit-row-visited t (c .before .before .before .before .before .before .before .before .before .before .before .before)) less other (rw (c .before .before .before .before .before .list-of .ensures) at (c .before .before .before .before .joined .ensures .1)) (c .before .before .enter-in-place .ensures .0) (c .before .if4 .taken) _ (c .answer3 .ensures .0) (c .answer3 .ensures .1 ∙ ap (λ n. c .before .before .enter-in-place .result * 4096 + n) (c .before .before .before .before .before .before .before .before .before .before .before .end-of .ensures)), c .before .before .enter-in-place .ensures .1 ∙ c .before .before .before .before .before .before .before .before .before .before .before .before .visit .ensures .1 ∙ c .before .before .before .before .before .before .before .before .before .before .before .before .before .before .loop .inv .1 .1)
+    let at-start = c .before .before .before .before .before .before .before .before .before .before .before .before .before .before .before .before .before in
+    let at-end-of = c .before .before .before .before .before .before .before .before .before .before .before .end-of in
+    let at-if1 = c .before .before .before .before .before .before .before .before .before .before .if1 in
+    let at-if2 = c .before .before .before .before .before .before .before .before .before .if2 in
+    let at-visit = c .before .before .before .before .before .before .before .before .before .before .before .before .visit in
+    let at-loop = c .before .before .before .before .before .before .before .before .before .before .before .before .before .before .loop in
+    let at-if3 = c .before .before .before .before .before .before .before .if3 in
+    let at-pos-of2 = c .before .before .before .before .before .before .before .before .pos-of2 in
+    let at-list-of = c .before .before .before .before .before .list-of in
+    let at-joined = c .before .before .before .before .joined in
+    let at-enter-in-place = c .before .before .enter-in-place in
+    let at-if4 = c .before .if4 in
+    let at-answer3 = c .answer3 in
+    let the-visited = visit-row-visited t (c .before .before .before .before .before .before .before .before .before .before .before .before) in
+    let pre = at-start .pre .1 in
+    let match = matched (at-end-of .ensures) (the-visited .came .end-most) (at-if1 .left) (at-if2 .left) in
+    let less = let e = at-end-of .ensures in let q : endIn (at-visit .result) < STOPPED = omega arith in q in
+    let other = let q : endIn (at-visit .result) ≢ posIn (at-loop .here) = λ e. at-if3 .left (at-end-of .ensures ∙ e ∙ sym (at-pos-of2 .ensures)) in q in
+    let both = rw (at-list-of .ensures) at (at-joined .ensures .1) in
+    let answered = at-answer3 .ensures .1 ∙ ap (λ n. at-enter-in-place .result * 4096 + n) (at-end-of .ensures) in
+    let refused = full _ _ _ _ _ (pre .0) (pre .1 .0 .0) (pre .1 .0 .1) (pre .1 .1) (at-loop .inv .0) _ the-visited less other both (at-enter-in-place .ensures .0) (at-if4 .taken) _ (at-answer3 .ensures .0) answered in
+    (refused, at-enter-in-place .ensures .1 ∙ at-visit .ensures .1 ∙ at-loop .inv .1 .1)
 
 -- All of it.
 pub visit-row-closed : (M : Type 1) (t : ℕ) → visit-row-lts.Closed (visit-row-claims t) (visit-row-at t) visit-row.Post M
