@@ -117,12 +117,17 @@ fn before_more(sheet: &mut Sheet) -> u16 {
     sheet.sequence(row, t)
 }
 
+/// (first pads last)?, as deep behind the first as there are pads.
+fn maybe_deeper(sheet: &mut Sheet, first: u16, last: u16, pads: usize) -> u16 {
+    let deep = padded(sheet, last, pads);
+    let more = sheet.sequence(first, deep);
+    sheet.optional(more)
+}
+
 /// 'a'* ('b' pads 'c')?: nothing else is so deep as what may come behind a row.
 fn then_deeper(sheet: &mut Sheet) -> u16 {
     let (row, b, c) = (bytes(sheet), sheet.byte(b'b'), sheet.byte(b'c'));
-    let deep = padded(sheet, c, 4);
-    let more = sheet.sequence(b, deep);
-    let maybe = sheet.optional(more);
+    let maybe = maybe_deeper(sheet, b, c, 4);
     sheet.sequence(row, maybe)
 }
 
@@ -136,18 +141,14 @@ fn kept_then_deeper(sheet: &mut Sheet) -> u16 {
     let end = sheet.word("bd");
     let seen = sheet.in_order(&[a, row, end]);
     let not = sheet.not(seen);
-    let deep = padded(sheet, c, 8);
-    let more = sheet.sequence(b, deep);
-    let maybe = sheet.optional(more);
+    let maybe = maybe_deeper(sheet, b, c, 8);
     sheet.in_order(&[not, row, maybe])
 }
 
 /// ('a'* 'b')* ('c' pads 'd')?: the same behind rows in a row.
 fn rows_then_deeper(sheet: &mut Sheet) -> u16 {
     let (rows, c, d) = (rows_in_a_row(sheet), sheet.byte(b'c'), sheet.byte(b'd'));
-    let deep = padded(sheet, d, 4);
-    let more = sheet.sequence(c, deep);
-    let maybe = sheet.optional(more);
+    let maybe = maybe_deeper(sheet, c, d, 4);
     sheet.sequence(rows, maybe)
 }
 

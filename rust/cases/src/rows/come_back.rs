@@ -61,6 +61,11 @@ fn kept_before_it() -> Sheet {
     let (a, y) = (sheet.byte(b'a'), sheet.byte(b'y'));
     let first = sheet.in_order(&[a, r, y]);
     let root = sheet.choice(first, r);
+    with_row_of(sheet, root, d)
+}
+
+/// This root of S; R <- D*; D <- [a-c]
+fn with_row_of(mut sheet: Sheet, root: u16, d: u16) -> Sheet {
     let r_root = sheet.repetition(d);
     let d_root = sheet.range(b'a', b'c');
     for root in [root, r_root, d_root] {
@@ -77,12 +82,7 @@ fn looked_at_each_turn() -> Sheet {
     let not = sheet.not(seen);
     let child = sheet.sequence(not, d);
     let root = sheet.repetition(child);
-    let r_root = sheet.repetition(d);
-    let d_root = sheet.range(b'a', b'c');
-    for root in [root, r_root, d_root] {
-        sheet.root(root);
-    }
-    sheet
+    with_row_of(sheet, root, d)
 }
 
 /// S <- D* 'y' / 'a' D* 'x' / D* by two repetitions of one child; D <- [a-c]
