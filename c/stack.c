@@ -1,6 +1,7 @@
 /*
  * stack.c: how many bytes of stack a call takes. Each call is made on a stack of its own that was painted before; the
- * lowest byte that lost its paint tells how deep the call went. Fails if one goes deeper than koskorbelu.h says.
+ * lowest byte that lost its paint tells how deep the call went. Fails if one goes deeper than koskorbelu.h says, or if
+ * the longest lines go deeper than the longest of version 1.
  */
 #define _DEFAULT_SOURCE /* for MAP_ANONYMOUS */
 #include <pthread.h>
@@ -77,7 +78,7 @@ static void measure(const char *what, call *function, uint64_t code)
     function(); /* what the system does at a first call is then done */
     size_t depth = depth_of(function);
     if (depth > deepest) deepest = depth;
-    printf("%8zu  %s\n", depth, what);
+    printf("%8zu%6zu  %s\n", depth, line_length, what);
     must(answer[KOS_AT_CODE] == code, "not the code that is due");
 }
 
@@ -96,19 +97,19 @@ static const struct chain {
     uint64_t code;
 } chains[] = {
     {"512 nots, free", NOT, EMPTY, 0, KOS_FAIL},
-    {"512 sequences by the first child, free", SEQUENCE, EMPTY, 0, KOS_READ},
-    {"512 sequences by the second child, free", SEQUENCE, EMPTY, 1, KOS_READ},
+    {"512 sequences by the first child, free", SEQUENCE, EMPTY, 0, KOS_REST},
+    {"512 sequences by the second child, free", SEQUENCE, EMPTY, 1, KOS_REST},
     {"512 choices by the first child, free", CHOICE, RANGE, 0, KOS_FAIL},
     {"512 choices by the second child, free", CHOICE, RANGE, 1, KOS_FAIL},
-    {"512 nots over the live use", NOT, RULE, 0, KOS_READ},
+    {"512 nots over the live use", NOT, RULE, 0, KOS_REST},
     {"512 sequences over the live use", SEQUENCE, RULE, 0, KOS_FAIL},
     {"512 choices by the first child, over the live use", CHOICE, RULE, 0, KOS_FAIL},
     {"512 choices by the second child, over the live use", CHOICE, RULE, 1, KOS_FAIL},
 };
 
-static void measure_chain(const struct chain *chain)
+static void measure_chain(const struct chain *chain, size_t length)
 {
-    begin(0);
+    begin(length);
     size_t top_node = add_node(&table, chain->bottom, 0, 0);
     while (table.node_count < KOS_MOST_NODES)
         top_node = add_node(&table, chain->kind, chain->is_second ? 0 : top_node, chain->is_second ? top_node : 0);
@@ -117,11 +118,11 @@ static void measure_chain(const struct chain *chain)
     measure(chain->name, call_read, chain->code);
 }
 
-/* S <- !!..!R with 509 nots; R <- 'a' / R: of the 512 open visits the last is one of a range, where nothing is kept. */
-static void range_at_the_bottom(void)
+/* S <- !!..!R with 509 nots; R <- 'b' / R: of the 512 open visits the last is one of a range, where nothing is kept. */
+static void range_at_the_bottom(size_t length)
 {
-    begin(0);
-    size_t byte = add_node(&table, RANGE, 'a', 'a'), use = add_node(&table, RULE, 1, 0);
+    begin(length);
+    size_t byte = add_node(&table, RANGE, 'b', 'b'), use = add_node(&table, RULE, 1, 0);
     size_t root = add_node(&table, CHOICE, byte, use), top_node = use;
     while (table.node_count < KOS_MOST_NODES) top_node = add_node(&table, NOT, top_node, 0);
     add_root(&table, top_node);
@@ -129,7 +130,21 @@ static void range_at_the_bottom(void)
     finish(&table);
     call_report();
     must(answer[KOS_AT_FREE] == 0, "not as free as is meant");
-    measure("509 nots over a live use, over a range", call_read, KOS_READ);
+    measure("509 nots over a live use, over a range", call_read, KOS_REST);
+}
+
+/* S <- !!..!R with 508 nots; R <- R 'a' / 'a': with 512 visits open the use at the bottom grows to the line's end. */
+static void growth_at_the_bottom(size_t length)
+{
+    begin(length);
+    size_t byte = add_node(&table, RANGE, 'a', 'a'), use = add_node(&table, RULE, 1, 0);
+    size_t root = add_node(&table, CHOICE, add_node(&table, SEQUENCE, use, byte), byte), top_node = use;
+    while (table.node_count < KOS_MOST_NODES) top_node = add_node(&table, NOT, top_node, 0);
+    add_root(&table, top_node);
+    add_root(&table, root);
+    finish(&table);
+    measure("508 nots over a use that grows by each byte", call_read, KOS_REST);
+    must(answer[KOS_AT_FURTHEST] == length, "not as far as is meant");
 }
 
 /* A free sheet keeps answers. In another a use becomes live if its rule is left-recursive, and is tried once if not. */
@@ -165,9 +180,9 @@ static void end(enum sort sort)
 }
 
 /* T <- 'a' T / empty, three visits deeper with each byte. */
-static void right_recursion(enum sort sort)
+static void right_recursion(enum sort sort, size_t length)
 {
-    begin(KOS_MOST_LINE);
+    begin(length);
     size_t byte = byte_or_rule(sort, 1), use = add_node(&table, RULE, 0, 0);
     size_t longer = add_node(&table, SEQUENCE, byte, use);
     size_t other = or_rule_0(sort, add_node(&table, EMPTY, 0, 0), use);
@@ -178,9 +193,9 @@ static void right_recursion(enum sort sort)
 }
 
 /* S <- ('a' S)*, three visits deeper with each byte: in each turn a repetition is open inside the one before. */
-static void repetitions(enum sort sort)
+static void repetitions(enum sort sort, size_t length)
 {
-    begin(KOS_MOST_LINE);
+    begin(length);
     size_t byte = byte_or_rule(sort, 1), use = add_node(&table, RULE, 0, 0);
     add_root(&table, add_node(&table, REPETITION, add_node(&table, SEQUENCE, byte, use), 0));
     end(sort);
@@ -188,12 +203,12 @@ static void repetitions(enum sort sort)
 }
 
 /*
- * (..(('a'* 'a')* 'a'* 'a')* 'a'* 'a' ..)* on 255 'a', each of 512 nodes below the next: every second is a repetition,
- * and the lowest takes 255 turns while 512 visits are open. The 'a' behind it fails, so that each one above takes none.
+ * (..(('a'* 'a')* 'a'* 'a')* 'a'* 'a' ..)*, each of 512 nodes below the next: every second is a repetition, and the
+ * lowest takes a turn for each byte while 512 visits are open. The 'a' behind it fails, so that each above takes none.
  */
-static void row_at_the_bottom(enum sort sort)
+static void row_at_the_bottom(enum sort sort, size_t length)
 {
-    begin(KOS_MOST_LINE);
+    begin(length);
     size_t child = add_node(&table, RANGE, 'a', 'a'), use = 0;
     if (sort != FREE) {
         use = add_node(&table, RULE, 1, 0);
@@ -208,14 +223,14 @@ static void row_at_the_bottom(enum sort sort)
     finish(&table);
     must_be(sort);
     must(table.node_count == KOS_MOST_NODES, "not 512 nodes");
-    measure(NAME("repetitions over a row of 255 turns", sort), call_read, KOS_REST);
-    must(answer[KOS_AT_FURTHEST] == KOS_MOST_LINE, "not as far as is meant");
+    measure(NAME("repetitions over a row of all bytes", sort), call_read, KOS_REST);
+    must(answer[KOS_AT_FURTHEST] == length, "not as far as is meant");
 }
 
 /* A ring of 62 rules, each the next one; the last goes one byte on. Nearly every open visit is a use. */
-static void ring(enum sort sort)
+static void ring(enum sort sort, size_t length)
 {
-    begin(KOS_MOST_LINE);
+    begin(length);
     for (size_t rule = 1; rule < 62; rule++) add_root(&table, add_node(&table, RULE, rule, 0));
     size_t byte = byte_or_rule(sort, 62), first = add_node(&table, RULE, 0, 0);
     add_root(&table, or_rule_0(sort, add_node(&table, SEQUENCE, byte, first), first));
@@ -223,38 +238,68 @@ static void ring(enum sort sort)
     measure(NAME("uses", sort), call_read, KOS_DEEP);
 }
 
-/* S <- W 'a' / 'a'; W <- V; and so on back to S: nine records a byte, each inside the next. */
-static void nested_records(void)
+/* So many 'a' one behind the other. */
+static size_t bytes(size_t count)
 {
-    begin(112);
-    size_t byte = add_node(&table, RANGE, 'a', 'a'), use = add_node(&table, RULE, 1, 0);
-    size_t longer = add_node(&table, SEQUENCE, use, byte);
-    add_root(&table, add_node(&table, CHOICE, longer, byte));
-    for (size_t rule = 2; rule <= 9; rule++) add_root(&table, add_node(&table, RULE, rule % 9, 0));
-    finish(&table);
-    measure("1,000 records, each inside the next", call_read, KOS_READ);
+    size_t byte = add_node(&table, RANGE, 'a', 'a'), word = byte;
+    while (--count > 0) word = add_node(&table, SEQUENCE, byte, word);
+    return word;
+}
+
+/* 1,000 records, in the version of the line. */
+static void measure_records(const char *what)
+{
+    measure(what, call_read, KOS_READ);
     must(answer[KOS_AT_RECORDS] == KOS_MOST_RECORDS, "not 1,000 records");
+    must(room[0] == KOS_STORED_VERSION(line_length), "not the line's version");
+}
+
+/* S <- W 'a' / 'a'; W <- V; and so on back to S, with a word for 'a': so many records a word, each inside the next. */
+static void nested_records(size_t rules, size_t word_length)
+{
+    begin(((KOS_MOST_RECORDS - 1) / rules + 1) * word_length);
+    size_t word = bytes(word_length), use = add_node(&table, RULE, 1 % rules, 0);
+    size_t longer = add_node(&table, SEQUENCE, use, word);
+    add_root(&table, add_node(&table, CHOICE, longer, word));
+    for (size_t rule = 1; rule < rules; rule++) add_root(&table, add_node(&table, RULE, (rule + 1) % rules, 0));
+    finish(&table);
+    measure_records("1,000 records, each inside the next");
+}
+
+/* S <- 'aaaa' D*; D <- 'aaaa': of the records 999 are made by one row, which version 1 has no line for. */
+static void records_of_a_row(void)
+{
+    begin(KOS_MOST_LINE);
+    size_t word = bytes(KOS_MOST_LINE / KOS_MOST_RECORDS);
+    size_t row = add_node(&table, REPETITION, add_node(&table, RULE, 1, 0), 0);
+    add_root(&table, add_node(&table, SEQUENCE, word, row));
+    add_root(&table, word);
+    finish(&table);
+    measure_records("1,000 records, 999 in a row");
 }
 
 /*
- * S <- !!('a' T) R T; T <- R R .. R ('a' T / empty), 498 R; R <- empty. On `a` the T at 1 is kept before the T at 0 is
- * visited, so that 1,000 records stand one behind the other. A writer that called itself for each would go that deep.
+ * S <- !!('b' T) R T 'a'*; T <- R R .. R ('b' T / empty), 498 R; R <- empty. Of a line that begins with b the T at 1 is
+ * kept before the T at 0 is visited, so that 1,000 records stand one behind the other. A writer that called itself for
+ * each would go that deep.
  */
-static void records_in_a_row(void)
+static void records_in_a_row(size_t length)
 {
-    begin(1);
-    size_t byte = add_node(&table, RANGE, 'a', 'a'), nothing = add_node(&table, EMPTY, 0, 0);
+    begin(length);
+    line[0] = 'b';
+    size_t byte = add_node(&table, RANGE, 'b', 'b'), nothing = add_node(&table, EMPTY, 0, 0);
     size_t t = add_node(&table, RULE, 1, 0), r = add_node(&table, RULE, 2, 0);
     size_t on = add_node(&table, SEQUENCE, byte, t);
     size_t row = add_node(&table, CHOICE, on, nothing);
     for (size_t i = 0; i < 498; i++) row = add_node(&table, SEQUENCE, r, row);
     size_t ahead = add_node(&table, NOT, add_node(&table, NOT, on, 0), 0);
-    add_root(&table, add_node(&table, SEQUENCE, ahead, add_node(&table, SEQUENCE, r, t)));
+    size_t rest = add_node(&table, REPETITION, add_node(&table, RANGE, 'a', 'a'), 0);
+    size_t all = add_node(&table, SEQUENCE, r, add_node(&table, SEQUENCE, t, rest));
+    add_root(&table, add_node(&table, SEQUENCE, ahead, all));
     add_root(&table, row);
     add_root(&table, nothing);
     finish(&table);
-    measure("1,000 records, each behind the next", call_read, KOS_READ);
-    must(answer[KOS_AT_RECORDS] == KOS_MOST_RECORDS, "not 1,000 records");
+    measure_records("1,000 records, each behind the next");
 }
 
 /* 64 rules of 8 nodes, each with the next one at its left end; all may be empty, which is learnt one rule at a time. */
@@ -291,24 +336,38 @@ static void full_reach(void)
     must(answer[KOS_AT_HOW_MANY] == 1 && answer[KOS_AT_FREE] == 0, "not the last rule reached");
 }
 
-int main(void)
+/* All that reads a line of so many bytes. */
+static void readings(size_t length)
 {
-    printf("   bytes  of stack\n");
-    for (size_t i = 0; i < sizeof chains / sizeof chains[0]; i++) measure_chain(&chains[i]);
-    range_at_the_bottom();
+    for (size_t i = 0; i < sizeof chains / sizeof chains[0]; i++) measure_chain(&chains[i], length);
+    range_at_the_bottom(length);
+    growth_at_the_bottom(length);
     for (enum sort sort = FREE; sort <= ONCE; sort++) {
-        repetitions(sort);
-        row_at_the_bottom(sort);
+        repetitions(sort, length);
+        row_at_the_bottom(sort, length);
     }
     for (enum sort sort = FREE; sort <= LIVE; sort++) {
-        right_recursion(sort);
-        ring(sort);
+        right_recursion(sort, length);
+        ring(sort, length);
     }
-    nested_records();
-    records_in_a_row();
+}
+
+int main(void)
+{
+    printf("   bytes  line  of stack\n");
     full_report();
     full_reach();
-    printf("%8zu  at most\n", deepest);
+    readings(KOS_MOST_LINE_OF_VERSION_1);
+    nested_records(9, 1);
+    records_in_a_row(KOS_MOST_LINE_OF_VERSION_1);
+    size_t shorter = deepest;
+    readings(KOS_MOST_LINE);
+    nested_records(1, 4);
+    records_in_a_row(KOS_MOST_LINE);
+    records_of_a_row();
+    printf("%8zu%6d  at most\n", shorter, KOS_MOST_LINE_OF_VERSION_1);
+    printf("%8zu%6d  at most\n", deepest, KOS_MOST_LINE);
+    must(deepest == shorter, "deeper with a longer line");
 #ifdef __x86_64__
     must(deepest <= KOS_STACK, "more than KOS_STACK of koskorbelu.h");
 #endif

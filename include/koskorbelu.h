@@ -44,15 +44,15 @@ enum kos_code {
     KOS_ROOT = 5,     /* a root is no node (the first such rule) */
     KOS_KIND = 6,     /* a node's kind is above 6 (the node) */
     KOS_FIELD = 7,    /* a node's field is not as its kind asks (the node) */
-    KOS_LINE = 8,     /* line over 255 bytes */
-    KOS_ALLOW = 9,    /* allowance 0 or over 1,000,000 */
+    KOS_LINE = 8,     /* line over 4,000 bytes */
+    KOS_ALLOW = 9,    /* allowance 0 or over 5,000,000 */
     KOS_WORK = 10,    /* fewer working numbers than the formula asks */
     KOS_EFFORT = 11,  /* the allowance is used up (position of the refused visit) */
     KOS_DEEP = 12,    /* 512 visits are open (position of the refused visit) */
     KOS_FAIL = 13,    /* rule 0 fails */
     KOS_REST = 14,    /* whole-line only: the match ends before the line (matched) */
     KOS_RECORDS = 15, /* the tree has over 1,000 records (matched) */
-    KOS_ROOM = 16,    /* room under the stored length (matched) */
+    KOS_ROOM = 16,    /* room under KOS_STORED_LENGTH (matched) */
     KOS_LOOP = 17     /* a repetition's child may be empty (the first such node) */
 };
 
@@ -82,17 +82,23 @@ enum kos_at {
 #define KOS_MOST_NODES 512
 #define KOS_MOST_RULES 64
 #define KOS_MOST_TABLE 2695
-#define KOS_MOST_LINE 255
-#define KOS_MOST_ALLOWANCE 1000000
+#define KOS_MOST_LINE 4000
+#define KOS_MOST_ALLOWANCE 5000000
 #define KOS_MOST_RECORDS 1000
 
-/* Working numbers that a reading asks for, with a table of so many nodes. */
+/* Working numbers that a reading asks for, with a table of so many nodes: at the
+ * limits 24,099,072, or 96 MB. */
 #define KOS_WORK_NEEDED(allowance, nodes, line_length) \
     (2048 + 4 * (size_t)(allowance) + 2 * (size_t)(nodes) * ((size_t)(line_length) + 1))
 
-/* Bytes of a stored reading with so many records, and of the longest. */
-#define KOS_STORED_LENGTH(records) (5 + 5 * (size_t)(records))
-#define KOS_MOST_STORED 5005
+/* The version of a line's stored reading, 1 or 2, and the longest line of version 1. */
+#define KOS_STORED_VERSION(line_length) ((size_t)(line_length) <= KOS_MOST_LINE_OF_VERSION_1 ? 1 : 2)
+#define KOS_MOST_LINE_OF_VERSION_1 255
+
+/* Bytes of a record, of a stored reading with so many of them, and of the longest. */
+#define KOS_RECORD_SIZE(line_length) (KOS_STORED_VERSION(line_length) == 1 ? 5 : 7)
+#define KOS_STORED_LENGTH(records, line_length) (5 + (size_t)(records) * KOS_RECORD_SIZE(line_length))
+#define KOS_MOST_STORED 7005
 
 /* Bytes of stack that a call takes at most, as measured on x86-64. */
 #define KOS_STACK 94208
@@ -135,12 +141,16 @@ void kos_report(const uint8_t *table, size_t table_length, uint64_t answer[KOS_R
  * many as KOS_WORK_NEEDED says, are 0 and the rest is as found. What stood
  * there before has no influence.
  *
- * room: READ leaves the stored reading in its first KOS_STORED_LENGTH(records)
- * bytes and the rest as found; any other answer leaves all of it as found.
+ * room: READ leaves the stored reading in its first bytes, as many as
+ * KOS_STORED_LENGTH says, and the rest as found; any other answer leaves all of
+ * it as found. KOS_MOST_STORED bytes are enough for every line.
  *
- * Stored reading: version 1; its length (2 bytes, the high one first); number
- * of records (2); for each record five bytes: rule, start, end, number of
- * children (2). Children come before their parent, in order; the root is last.
+ * Stored reading: version; its length (2 bytes, the high one first); number of
+ * records (2); then the records. A line of up to 255 bytes gives version 1, and
+ * five bytes for each record: rule, start, end, number of children (2). A longer
+ * line gives version 2, and seven: rule, start (2), end (2), number of children
+ * (2). The version goes by the line, however little of it matches. Children come
+ * before their parent, in order; the root is last.
  */
 void kos_read_prefix(const uint8_t *table, size_t table_length,
                      const uint8_t *line, size_t line_length,

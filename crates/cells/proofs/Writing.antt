@@ -209,14 +209,14 @@ pub end-is : (width n : ℕ) (ts : Trees) → recordsOf ts ≤ 1000 → n ≡ sa
 end-is width n ts few e = let n′ : n ≡ recordsOf ts = omega arith in rw n′
 
 -- The whole stored reading: the head, then the records.
-pub all-wrote : (room r₁ r₂ : List ℕ) (width n : ℕ) (ts : Trees) → recordsOf ts ≤ 1000 → storedLength width (recordsOf ts) ≤ length room
-    → n ≡ saturated (recordsOf ts) → r₁ ≡ sets room 0 (headBytes width n) → Wrote r₁ r₂ width (storedLength width n) ts → r₂ ≡ withStored room width ts
+pub all-wrote : (room r₁ r₂ : List ℕ) (width n end : ℕ) (ts : Trees) → recordsOf ts ≤ 1000 → storedLength width (recordsOf ts) ≤ length room
+    → n ≡ saturated (recordsOf ts) → r₁ ≡ sets room 0 (headBytes width n) → end ≡ storedLength width n → Wrote r₁ r₂ width end ts → r₂ ≡ withStored room width ts
 unfolding storedOf
-all-wrote room r₁ r₂ width n ts few fits en e₁ w₂ =
+all-wrote room r₁ r₂ width n end ts few fits en e₁ ee w₂ =
     let h = headBytes width (recordsOf ts) in
     let xs = treesBytes width ts in
     let n′ : n ≡ recordsOf ts = omega arith in
     let lh : length h ≡ 5 = length-head width (recordsOf ts) in
-    let s : r₂ ≡ sets room 0 (h ++ xs) = sets-on room 0 (storedLength width n - recordSize width * recordsOf ts) h xs r₁ r₂ (omega (arith, end-is width n ts few en)) (rw n′ at e₁) w₂ in
+    let s : r₂ ≡ sets room 0 (h ++ xs) = sets-on room 0 (end - recordSize width * recordsOf ts) h xs r₁ r₂ (omega (arith, ee, end-is width n ts few en)) (rw n′ at e₁) w₂ in
     let l : length (h ++ xs) ≡ storedLength width (recordsOf ts) = length-stored width ts in
     s ∙ sets-front room (h ++ xs) (omega arith) ∙ rw l

@@ -223,6 +223,6 @@ pub fn write(work: &[u32], room: &mut [u8], width: usize, list: u32)
 {
     let records = records_of(work, list);
     stored::put_head(room, width, records);
-    let end = 5 + (3 + 2 * width) * records as usize;
+    let end = stored::stored_length(width, records) as usize;
     write_trees(work, room, width, list, end);
 }

@@ -7,11 +7,11 @@ use page::Page;
 // The most that a command can set or lend.
 pub(crate) const TABLE: usize = 3_000;
 
-pub(crate) const LINE: usize = 300;
+pub(crate) const LINE: usize = 4_100;
 
-pub(crate) const NUMBERS: usize = 65_536;
+pub(crate) const NUMBERS: usize = 262_144;
 
-pub(crate) const ROOM: usize = 5_120;
+pub(crate) const ROOM: usize = 7_168;
 
 pub(crate) type Table = [u8; TABLE];
 

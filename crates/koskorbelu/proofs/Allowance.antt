@@ -13,8 +13,8 @@ use Rattle.meaning.specs.Reading.{State, made, Run, Way, wayOf, read}
 use Rattle.meaning.proofs.Choose.{by-test-twice}
 use Rattle.stored.specs.Stored.{recordsOf, storedLength}
 use Rattle.reader.specs.declared.Reading.{Reading}
-use Rattle.reader.specs.Answer.{EFFORT, DEEP, mostRecords, positionWidth, Outcome, matchOutcome}
-use Rattle.koskorbelu.specs.Demands.{Call, back, code, visits, grammar, run, ended, Came, effort, deep, done, Taken, taken, Answers}
+use Rattle.reader.specs.Answer.{EFFORT, DEEP, mostRecords, Outcome, matchOutcome}
+use Rattle.koskorbelu.specs.Demands.{Call, back, code, visits, grammar, run, version, ended, Came, effort, deep, done, Taken, taken, Answers}
 use Rattle.koskorbelu.proofs.Demand1.{told, by-answer, gives, came}
 use Rattle.koskorbelu.proofs.Steady.{done-always, deep-always, larger, fewer}
 use Rattle.koskorbelu.proofs.Demand2.{not-answering, ended-visits, ended-answers}
@@ -39,7 +39,7 @@ module _ (c : Call) (t : Taken c) (a : ℕ) (w : List ℕ) (t′ : Taken (allowi
   told-alike n f (ok e ts) =
       by-test-twice Alike (c .whole && ltb e (length (c .line))) _ _ _ _ (record { reading = refl; room = refl })
       (by-test-twice Alike (ltb mostRecords (recordsOf ts)) _ _ _ _ (record { reading = refl; room = refl })
-      (by-test-twice Alike (ltb (length (c .room)) (storedLength positionWidth (recordsOf ts))) _ _ _ _ (record { reading = refl; room = refl }) (record { reading = refl; room = refl })))
+      (by-test-twice Alike (ltb (length (c .room)) (storedLength (version c) (recordsOf ts))) _ _ _ _ (record { reading = refl; room = refl }) (record { reading = refl; room = refl })))
 
   -- How the reading ended, by the code.
   answered : {o : Outcome} → Came c o → Answers (code o) → (r : Answer) × (s : State) × (run c ≡ Run.done r s) × (visits o ≡ made (c .allowance) s)

@@ -20,9 +20,9 @@ use Rattle.sheet.specs.Given.{WellFormed}
 use Rattle.sheet.proofs.Exact as exact
 use Rattle.layout.proofs.Tests.{ltb-iff, both, failed-iff}
 use Rattle.stored.specs.Stored.{recordsOf, storedLength}
-use Rattle.reader.specs.Answer.{FAIL, longestLine, mostAllowance, mostRecords, positionWidth, Outcome, cleared, matchOutcome, runOutcome, readingOf, Leaves}
+use Rattle.reader.specs.Answer.{FAIL, longestLine, mostAllowance, mostRecords, Outcome, cleared, matchOutcome, runOutcome, readingOf, Leaves}
 use Rattle.reader.specs.declared.Reading.{Reading}
-use Rattle.koskorbelu.specs.Demands.{Call, back, code, run, needed, ended, EndsBefore, Ended, fails, rest, records, room, reads, Came, effort, deep, done, Taken, Given, check, line}
+use Rattle.koskorbelu.specs.Demands.{Call, back, code, run, needed, version, ended, EndsBefore, Ended, fails, rest, records, room, reads, Came, effort, deep, done, Taken, Given, check, line}
 use Rattle.koskorbelu.specs.Demands.{allow, work, taken, Demand1}
 
 module _ (c : Call) where
@@ -76,7 +76,7 @@ module _ (c : Call) where
       (λ q. let n = failed-iff (ends-iff e) .0 q in
       by-test (Came c) (ltb mostRecords (recordsOf ts)) _ _ (λ q. done m (records n (ltb-true _ _ q)))
       (λ q. let h = ltb-false _ _ q in
-      by-test (Came c) (ltb (length (c .room)) (storedLength positionWidth (recordsOf ts))) _ _ (λ q. done m (room n h (ltb-true _ _ q)))
+      by-test (Came c) (ltb (length (c .room)) (storedLength (version c) (recordsOf ts))) _ _ (λ q. done m (room n h (ltb-true _ _ q)))
       (λ q. done m (reads n h (ltb-false _ _ q)))))
 
   of-run : (m : Run) → run c ≡ m → Came c (runOutcome (c .whole) (length (c .line)) (c .allowance) m (cleared (needed c) (c .work)) (c .room))

@@ -13,19 +13,23 @@ use Rattle.meaning.proofs.Runs.{Ends}
 use Rattle.meaning.proofs.Claims as claims
 use Rattle.layout.proofs.Laying.{node-count}
 use Rattle.sheet.specs.Given.{WellFormed}
-use Rattle.reader.specs.Answer.{EFFORT, DEEP, longestLine, Outcome}
+use Rattle.reader.specs.Answer.{EFFORT, DEEP, longestLine, mostAllowance, Outcome}
 use Rattle.koskorbelu.specs.Demands.{Call, back, code, visits, furthest, grammar, run, Ended, Came, effort, deep, done, Taken, Demand3}
 use Rattle.koskorbelu.proofs.Demand1.{came}
 use Rattle.koskorbelu.proofs.Demand2.{ended-visits, ended-furthest, ended-own, is-closed, plain-answer, has-rule, no-effort}
 
 module _ (c : Call) where
   -- No call needs a larger allowance than this.
-  pub most-bound : WellFormed (c .table) → length (c .line) ≤ longestLine → bound (grammar c) (c .line) ≤ 262145
+  pub most-bound : WellFormed (c .table) → length (c .line) ≤ longestLine → bound (grammar c) (c .line) ≤ 4097025
   most-bound w short =
       let n : 2 * length (grammar c .nodes) ≤ 1024 = omega (arith, node-count (c .table), w .laid .few-nodes) in
-      let l : length (c .line) + 1 ≤ 256 = omega arith in
-      let p : 2 * length (grammar c .nodes) * (length (c .line) + 1) ≤ 1024 * 256 = mul-le-mul n l in
+      let l : length (c .line) + 1 ≤ longestLine + 1 = omega arith in
+      let p : 2 * length (grammar c .nodes) * (length (c .line) + 1) ≤ 1024 * (longestLine + 1) = mul-le-mul n l in
       omega arith
+
+  -- So an allowance can always be large enough.
+  pub large-enough : WellFormed (c .table) → length (c .line) ≤ longestLine → bound (grammar c) (c .line) ≤ mostAllowance
+  large-enough w short = let m = most-bound w short in omega arith
 
   module _ (t : Taken c) (free : Free (grammar c)) where
     abbrev Few : State → Type 0

@@ -13,8 +13,8 @@ use Rattle.sheet.specs.Check.{LOOP}
 use Rattle.sheet.specs.Given as sheet
 use Rattle.sheet.specs.Given.{WellFormed}
 use Rattle.stored.specs.Stored.{recordsOf, storedLength}
-use Rattle.reader.specs.Answer.{longestLine, mostAllowance, mostRecords, positionWidth, Outcome}
-use Rattle.koskorbelu.specs.Demands.{Call, back, code, run, needed, EndsBefore, fails, rest, records, room, reads, effort, deep, done, Taken, Given, check, line, allow, work, taken}
+use Rattle.reader.specs.Answer.{longestLine, mostAllowance, mostRecords, Outcome}
+use Rattle.koskorbelu.specs.Demands.{Call, back, code, run, needed, version, EndsBefore, fails, rest, records, room, reads, effort, deep, done, Taken, Given, check, line, allow, work, taken}
 use Rattle.koskorbelu.proofs.Demand1.{gives, given}
 
 -- Each of some rows, from row k on.
@@ -43,7 +43,7 @@ module _ (c : Call) where
   -- 01's column "given exactly when", from code 0 to code 16, and 02's for code 17.
   abbrev pub rows : List (Type 0)
   rows =
-      Matches (λ e ts. ¬ EndsBefore c e × (recordsOf ts ≤ mostRecords) × (storedLength positionWidth (recordsOf ts) ≤ length (c .room)))
+      Matches (λ e ts. ¬ EndsBefore c e × (recordsOf ts ≤ mostRecords) × (storedLength (version c) (recordsOf ts) ≤ length (c .room)))
       ∷ Refused SHORT
       ∷ Refused VERSION
       ∷ Refused COUNT
@@ -59,7 +59,7 @@ module _ (c : Call) where
       ∷ (Taken c × ((s : State) × (run c ≡ Run.done fail s)))
       ∷ Matches (λ e ts. EndsBefore c e)
       ∷ Matches (λ e ts. ¬ EndsBefore c e × (mostRecords < recordsOf ts))
-      ∷ Matches (λ e ts. ¬ EndsBefore c e × (recordsOf ts ≤ mostRecords) × (length (c .room) < storedLength positionWidth (recordsOf ts)))
+      ∷ Matches (λ e ts. ¬ EndsBefore c e × (recordsOf ts ≤ mostRecords) × (length (c .room) < storedLength (version c) (recordsOf ts)))
       ∷ Refused LOOP
       ∷ []
 

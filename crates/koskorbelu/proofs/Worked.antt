@@ -6,7 +6,7 @@ use Prim.Native.Nat.{ℕ, zero, suc, _≤_}
 use native.Mathlib.Omega.{arith}
 use borrow.Author.Tests.{leb-true, le-ltb}
 use lib.Dec.{leb, ltb}
-use lib.ListN.{length, drop}
+use lib.ListN.{length, drop, replicate}
 use Rattle.meaning.specs.Grammar.{Trees, fail, ok, wrap, fits, look}
 use Rattle.meaning.specs.Decide.{emptyNodes, ledTo, ledRules, leftRecursive, isFree}
 use Rattle.meaning.specs.Reading.{made, Run, after, byte, joined, second, otherwise, repeatFrom, repeated, wrapped, apply, longer, attempted, grow, firstAttempt, useLive, keep, counted, useBy}
@@ -19,10 +19,11 @@ use Rattle.layout.specs.Layout.{READ, firstFault, rootFault, fieldsFit, faultOf
 use Rattle.sheet.specs.Check.{loopFault, checkOf, Accepted}
 use Rattle.sheet.proofs.Exact.{accepted-iff}
 use Rattle.layout.proofs.Worked.{tableA, tableB, tableUnused}
+use Rattle.stored.specs.Version.{versionOf}
 use Rattle.stored.specs.Stored.{recordsOf, numberOf, inBytes, recordBytes, treesBytes, storedLength, headBytes, storedOf}
 use Rattle.stored.proofs.Bytes.{length-stored}
 use Rattle.reader.specs.declared.Reading.{Reading}
-use Rattle.reader.specs.Answer.{EFFORT, DEEP, FAIL, REST, RECORDS, mostRecords, longestLine, mostAllowance, positionWidth, Outcome, numbers, cleared, matchOutcome, runOutcome}
+use Rattle.reader.specs.Answer.{EFFORT, DEEP, FAIL, REST, RECORDS, mostRecords, longestLine, mostAllowance, Outcome, numbers, cleared, matchOutcome, runOutcome}
 use Rattle.koskorbelu.specs.Demands.{Call, back, run, needed, Taken}
 use Rattle.koskorbelu.proofs.Demand1.{by-run}
 
@@ -90,7 +91,7 @@ abbrev pub commaLine : Line
 commaLine = case true tableB (49 ∷ 44 ∷ 53 ∷ []) 2500 (numbers READ 0 3 8 3 2) (1 ∷ 0 ∷ 20 ∷ 0 ∷ 3 ∷ 1 ∷ 0 ∷ 1 ∷ 0 ∷ 0 ∷ 1 ∷ 2 ∷ 3 ∷ 0 ∷ 0 ∷ 0 ∷ 0 ∷ 3 ∷ 0 ∷ 2 ∷ [])
 
 -- Bytes of `7+2`, `7`, `+`, `7+`; of `1,5`, `1`, `1.5`, `,5`; of `a`. A line that 01 gives no allowance has the program's, 2,500.
--- The numbers are code, place, matched, visits, records, furthest.
+-- The numbers are code, place, matched, visits, records, furthest. 02, W-212: B matches one byte of 255 and of 256, and the line's length gives the version.
 unfoldable pub worked : List Line
 worked =
     case true tableA (55 ∷ 43 ∷ 50 ∷ []) 2500 (numbers READ 0 3 19 4 3)
@@ -109,6 +110,8 @@ worked =
     ∷ case true tableB (44 ∷ 53 ∷ []) 2500 (numbers FAIL 0 0 5 0 0) []
     ∷ case true tableUnused (49 ∷ 44 ∷ 53 ∷ []) 2500 (numbers READ 0 3 8 3 2) (1 ∷ 0 ∷ 20 ∷ 0 ∷ 3 ∷ 1 ∷ 0 ∷ 1 ∷ 0 ∷ 0 ∷ 1 ∷ 2 ∷ 3 ∷ 0 ∷ 0 ∷ 0 ∷ 0 ∷ 3 ∷ 0 ∷ 2 ∷ [])
     ∷ case true tableUnused (49 ∷ []) 2500 (numbers READ 0 1 7 2 1) (1 ∷ 0 ∷ 15 ∷ 0 ∷ 2 ∷ 1 ∷ 0 ∷ 1 ∷ 0 ∷ 0 ∷ 0 ∷ 0 ∷ 1 ∷ 0 ∷ 1 ∷ [])
+    ∷ case false tableB (replicate 255 49) 2500 (numbers READ 0 1 7 2 1) (1 ∷ 0 ∷ 15 ∷ 0 ∷ 2 ∷ 1 ∷ 0 ∷ 1 ∷ 0 ∷ 0 ∷ 0 ∷ 0 ∷ 1 ∷ 0 ∷ 1 ∷ [])
+    ∷ case false tableB (replicate 256 49) 2500 (numbers READ 0 1 7 2 1) (2 ∷ 0 ∷ 19 ∷ 0 ∷ 2 ∷ 1 ∷ 0 ∷ 0 ∷ 0 ∷ 1 ∷ 0 ∷ 0 ∷ 0 ∷ 0 ∷ 0 ∷ 0 ∷ 1 ∷ 0 ∷ 1 ∷ [])
     ∷ case true turned (49 ∷ 44 ∷ 53 ∷ []) 2500 (numbers REST 1 1 3 0 0) []
     ∷ case true denied (97 ∷ []) 2500 (numbers READ 0 1 7 1 0) (1 ∷ 0 ∷ 10 ∷ 0 ∷ 1 ∷ 0 ∷ 0 ∷ 1 ∷ 0 ∷ 0 ∷ [])
     ∷ case true nine [] 2500 (numbers READ 0 0 25 511 0) (1 ∷ 10 ∷ 0 ∷ 1 ∷ 255 ∷ twice 8 0)
@@ -127,7 +130,7 @@ only r = record { numbers = r; bytes = [] }
 unfoldable matched : (whole : Bool) (long e : ℕ) → Trees → (visits furthest : ℕ) → Stored
 matched whole long e ts visits furthest =
     cond (whole && ltb e long) (only (numbers REST e e visits 0 furthest))
-    (cond (ltb mostRecords (recordsOf ts)) (only (numbers RECORDS e e visits 1001 furthest)) (record { numbers = numbers READ 0 e visits (recordsOf ts) furthest; bytes = storedOf positionWidth ts }))
+    (cond (ltb mostRecords (recordsOf ts)) (only (numbers RECORDS e e visits 1001 furthest)) (record { numbers = numbers READ 0 e visits (recordsOf ts) furthest; bytes = storedOf (versionOf long) ts }))
 
 unfoldable roomy : (whole : Bool) (long allowance : ℕ) → Run → Stored
 roomy whole long allowance (Run.effort p s) = only (numbers EFFORT p 0 (made allowance s) 0 (s .furthest))
@@ -143,9 +146,9 @@ module _ (whole : Bool) (long : ℕ) (work room : List ℕ) where
   of-match : (e : ℕ) (ts : Trees) (visits furthest : ℕ) → Same work room (matched whole long e ts visits furthest) (matchOutcome whole long e ts visits furthest work room)
   unfolding matched matchOutcome
   of-match e ts visits furthest =
-      let l : length (storedOf positionWidth ts) ≡ storedLength positionWidth (recordsOf ts) = length-stored positionWidth ts in
+      let l : length (storedOf (versionOf long) ts) ≡ storedLength (versionOf long) (recordsOf ts) = length-stored (versionOf long) ts in
       by-test-twice (Same work room) (whole && ltb e long) _ _ _ _ (λ h. refl)
-      (by-test-twice (Same work room) (ltb mostRecords (recordsOf ts)) _ _ _ _ (λ h. refl) (λ h. rw (le-ltb (length room) (storedLength positionWidth (recordsOf ts)) (omega arith), l)))
+      (by-test-twice (Same work room) (ltb mostRecords (recordsOf ts)) _ _ _ _ (λ h. refl) (λ h. rw (le-ltb (length room) (storedLength (versionOf long) (recordsOf ts)) (omega arith), l)))
 
   of-run : (allowance : ℕ) (m : Run) → Same work room (roomy whole long allowance m) (runOutcome whole long allowance m work room)
   unfolding roomy runOutcome
@@ -191,7 +194,7 @@ all-hold [] h = tt
 all-hold (l ∷ ls) h = (holds l (head-eq-of-cons-eq h), all-hold ls (tail-eq-of-cons-eq h))
 
 all-computed : map computed worked ≡ map wanted worked
-unfolding worked roomy matched wrap fits look after byte joined second otherwise reading.denied repeatFrom repeated wrapped apply longer attempted grow firstAttempt useLive keep
+unfolding worked roomy matched versionOf wrap fits look after byte joined second otherwise reading.denied repeatFrom repeated wrapped apply longer attempted grow firstAttempt useLive keep
     counted useBy recall visited inPlace visit readBy read emptyNodes ledTo ledRules leftRecursive isFree checkOf loopFault layoutOf firstFault rootFault nodeFault faultOf fieldsFit lengthOf
     nodesOf rulesOf rootOf formula kindOf fieldOf nodeOf grammarOf recordsOf numberOf inBytes recordBytes treesBytes headBytes storedOf
 all-computed = refl

@@ -15,8 +15,9 @@ use Rattle.layout.specs.Layout.{READ}
 use Rattle.sheet.specs.Check.{LOOP}
 use Rattle.sheet.specs.Given as sheet
 use Rattle.sheet.specs.Given.{WellFormed}
+use Rattle.stored.specs.Version.{versionOf}
 use Rattle.stored.specs.Stored.{recordsOf, storedLength, storedOf}
-use Rattle.reader.specs.Answer.{LINE, ALLOW, WORK, EFFORT, DEEP, FAIL, REST, RECORDS, ROOM, longestLine, mostAllowance, mostRecords, positionWidth, Outcome, numbers, workNeeded, cleared}
+use Rattle.reader.specs.Answer.{LINE, ALLOW, WORK, EFFORT, DEEP, FAIL, REST, RECORDS, ROOM, longestLine, mostAllowance, mostRecords, Outcome, numbers, workNeeded, cleared}
 use Rattle.reader.specs.Answer.{turnedAway, readingOf}
 
 -- What is asked, a prefix or the whole line, and what is lent.
@@ -52,6 +53,10 @@ run c = read (grammar c) (c .line) (c .allowance)
 abbrev pub needed : Call → ℕ
 needed c = workNeeded (c .allowance) (nodesOf (c .table)) (length (c .line))
 
+-- 02, W-212: the version of the stored reading, by the line's length.
+abbrev pub version : Call → ℕ
+version c = versionOf (length (c .line))
+
 -- 01: "Codes 1 to 10 return zeros else and change nothing." 02, W-209, of LOOP: "else it answers as codes 1 to 10 do".
 abbrev pub away : Call → (code place : ℕ) → Outcome
 away c code place = turnedAway code place (c .work) (c .room)
@@ -69,13 +74,13 @@ pub data Ended (c : Call) (visits furthest : ℕ) : Answer → Outcome → Type 
   fails : Ended c visits furthest fail (ended c FAIL 0 0 visits 0 furthest)
   rest : {e : ℕ} {ts : Trees} → EndsBefore c e → Ended c visits furthest (ok e ts) (ended c REST e e visits 0 furthest)
   records : {e : ℕ} {ts : Trees} → ¬ EndsBefore c e → mostRecords < recordsOf ts → Ended c visits furthest (ok e ts) (ended c RECORDS e e visits 1001 furthest)
-  room : {e : ℕ} {ts : Trees} → ¬ EndsBefore c e → recordsOf ts ≤ mostRecords → length (c .room) < storedLength positionWidth (recordsOf ts)
+  room : {e : ℕ} {ts : Trees} → ¬ EndsBefore c e → recordsOf ts ≤ mostRecords → length (c .room) < storedLength (version c) (recordsOf ts)
       → Ended c visits furthest (ok e ts) (ended c ROOM e e visits (recordsOf ts) furthest)
-  reads : {e : ℕ} {ts : Trees} → ¬ EndsBefore c e → recordsOf ts ≤ mostRecords → storedLength positionWidth (recordsOf ts) ≤ length (c .room)
+  reads : {e : ℕ} {ts : Trees} → ¬ EndsBefore c e → recordsOf ts ≤ mostRecords → storedLength (version c) (recordsOf ts) ≤ length (c .room)
       → Ended c visits furthest (ok e ts) (record {
         reading = numbers READ 0 e visits (recordsOf ts) furthest;
         work = cleared (needed c) (c .work);
-        room = storedOf positionWidth ts ++ drop (storedLength positionWidth (recordsOf ts)) (c .room);
+        room = storedOf (version c) ts ++ drop (storedLength (version c) (recordsOf ts)) (c .room);
       })
 
 -- 01's rows 11 to 16 and 0: what a call gives whose line is read.

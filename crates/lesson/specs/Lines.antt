@@ -2,10 +2,11 @@
 use mathlib.Core.Path.{_≡_}
 use mathlib.Core.Bool.{false, cond}
 use mathlib.Core.List.{List, [], _∷_, _++_}
-use Prim.Native.Nat.{ℕ, _≤_}
+use Prim.Native.Nat.{ℕ, _+_, _≤_}
 use lib.ListN.{length, take}
 use lib.Dec.{eqb}
 use Rattle.page.specs.Page.{Puts, hasFailed}
+use Rattle.stored.specs.Version.{longestLine}
 use Rattle.answers.specs.Printed.{lineText}
 
 abbrev pub LF : ℕ
@@ -27,9 +28,9 @@ lastText table begun = cond (eqb (length begun) 0) [] (lineText table begun)
 unfoldable pub allText : (table input : List ℕ) → List ℕ
 allText table input = textOf table [] input ++ lastText table (begunBy [] input)
 
--- The longest line that can be read has 255 bytes. Of a longer one, so many are kept: it is refused, whatever follows.
+-- Of a line that is longer than the longest, one byte more is kept: it is refused, whatever follows.
 abbrev pub kept : ℕ
-kept = 256
+kept = longestLine + 1
 
 -- The line on its place has a byte more, if there is room.
 pub record Lengthened (line : List ℕ) (count byte : ℕ) (after : List ℕ) (countAfter : ℕ) : Type 0 where

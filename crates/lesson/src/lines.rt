@@ -12,8 +12,8 @@ ghost use Rattle.lesson.specs.Status.{done, Ends};
 
 const LF: u8 = 10;
 
-// The longest line has 255 bytes, and one more is kept: the reader refuses a line that is longer.
-const LINE: usize = 256;
+// One byte more than the longest line has is kept: the reader refuses a line that is longer.
+const LINE: usize = stored::LONGEST_LINE + 1;
 
 type Line = [u8; LINE];
 

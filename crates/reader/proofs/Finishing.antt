@@ -10,6 +10,7 @@ use lib.Dec.{ltb}
 use borrow.Author.Tests.{lt-ltb, le-ltb}
 use Rattle.meaning.specs.Grammar.{Trees, fail, ok}
 use Rattle.meaning.specs.Reading.{effort, deep, done}
+use Rattle.stored.specs.Version.{versionOf}
 use Rattle.stored.specs.Stored.{recordsOf, storedLength, withStored}
 use Rattle.cells.specs.Cells.{saturated, treesAt}
 use Rattle.cells.specs.Arena.{Arena}
@@ -17,7 +18,7 @@ use Rattle.cells.proofs.Frame.{arena-less}
 use Rattle.visits.specs.Words.{furthestIn}
 use Rattle.visits.specs.Says.{FAILED, STOPPED, Visited}
 use Rattle.reader.specs.declared.Reading.{Reading}
-use Rattle.reader.specs.Answer.{FAIL, REST, RECORDS, ROOM, numbers, matchOutcome, runOutcome, Leaves}
+use Rattle.reader.specs.Answer.{FAIL, REST, RECORDS, ROOM, longestLine, numbers, matchOutcome, runOutcome, Leaves}
 use Rattle.reader.specs.Steps.{Finishable, Finished}
 
 same-numbers : {c c′ p p′ m m′ v v′ r r′ f f′ : ℕ} → c ≡ c′ → p ≡ p′ → m ≡ m′ → v ≡ v′ → r ≡ r′ → f ≡ f′ → numbers c p m v r f ≡ numbers c′ p′ m′ v′ r′ f′
@@ -32,7 +33,7 @@ module _ {long : ℕ} {w : List ℕ} {v : Visited} (f : Finishable long w v) (en
   arena-of list e = let m = f .end-most in let l = f .list-in (omega arith) in arena-less w (v .top) list (omega arith) (f .arena)
 
 -- The end, the list and the visits made are those of the result, and the furthest position that of the words.
-module _ (whole : Bool) (long : ℕ) (w : List ℕ) (v : Visited) (room : List ℕ) (short : long ≤ 255) (end list made furthest : ℕ)
+module _ (whole : Bool) (long : ℕ) (w : List ℕ) (v : Visited) (room : List ℕ) (short : long ≤ longestLine) (end list made furthest : ℕ)
     (end-is : end ≡ v .end) (list-is : list ≡ v .list) (made-is : made ≡ v .made) (furthest-is : furthest ≡ furthestIn w) where
   pub by-refusal : end ≡ STOPPED → Finished whole long w v (numbers (list / 4096) (list % 4096) 0 made 0 furthest) room room
   unfolding runOutcome
@@ -82,14 +83,15 @@ module _ (whole : Bool) (long e : ℕ) (ts : Trees) (visits furthest : ℕ) (wor
     unfolding matchOutcome
     as-records lt = rw (reached, lt-ltb 1000 (recordsOf ts) lt) (record { returned = refl; working = refl; stored = refl })
 
-    module _ (few : recordsOf ts ≤ 1000) where
-      pub as-room : length room < storedLength 1 (recordsOf ts) → Leaves (matchOutcome whole long e ts visits furthest work room) (numbers ROOM e e visits (recordsOf ts) furthest) work room
+    -- The version is the one that the line's length gives.
+    module _ (few : recordsOf ts ≤ 1000) (version : ℕ) (version-is : version ≡ versionOf long) where
+      pub as-room : length room < storedLength version (recordsOf ts) → Leaves (matchOutcome whole long e ts visits furthest work room) (numbers ROOM e e visits (recordsOf ts) furthest) work room
       unfolding matchOutcome
-      as-room lt = rw (reached, le-ltb 1000 (recordsOf ts) few, lt-ltb (length room) (storedLength 1 (recordsOf ts)) lt) (record { returned = refl; working = refl; stored = refl })
+      as-room lt = rw (reached, le-ltb 1000 (recordsOf ts) few, ← version-is, lt-ltb (length room) (storedLength version (recordsOf ts)) lt) (record { returned = refl; working = refl; stored = refl })
 
-      pub as-read : storedLength 1 (recordsOf ts) ≤ length room → Leaves (matchOutcome whole long e ts visits furthest work room) (numbers 0 0 e visits (recordsOf ts) furthest) work (withStored room 1 ts)
+      pub as-read : storedLength version (recordsOf ts) ≤ length room → Leaves (matchOutcome whole long e ts visits furthest work room) (numbers 0 0 e visits (recordsOf ts) furthest) work (withStored room version ts)
       unfolding matchOutcome
-      as-read le = rw (reached, le-ltb 1000 (recordsOf ts) few, le-ltb (length room) (storedLength 1 (recordsOf ts)) le) (record { returned = refl; working = refl; stored = refl })
+      as-read le = rw (reached, le-ltb 1000 (recordsOf ts) few, ← version-is, le-ltb (length room) (storedLength version (recordsOf ts)) le) (record { returned = refl; working = refl; stored = refl })
 
 -- A count that is at most 1,000 is the true one; one above says so of the true one.
 pub true-count : (n m : ℕ) → n ≡ saturated m → n ≤ 1000 → n ≡ m

@@ -1,15 +1,17 @@
 -- The visits start: the words stand for nothing live and nothing kept, and what the use of rule 0 says is the reading.
 use mathlib.Core.Path.{_≡_, refl, sym, subst, ap, ap₂, _∙_}
-use mathlib.Core.Bool.{Bool, true}
+use mathlib.Core.Bool.{Bool, true, false, cond}
 use mathlib.Core.List.{List, [], _∷_}
 use Prim.Native.Nat.{ℕ, _+_, _*_, _<_, _≤_}
 use native.Mathlib.Omega.{arith}
 use lib.ListN.{length, getD}
 use lib.Seq.{sets, length-sets}
 use lib.Dec.{ltb}
+use borrow.Author.Tests.{lt-ltb, le-ltb}
 use Rattle.meaning.specs.Grammar.{fail, ok, look}
 use Rattle.meaning.specs.Reading.{starting, Run, effort, deep, done, wayOf, visit, useRule, readBy, read}
 use Rattle.meaning.specs.Decide.{leftRecursive, isFree}
+use Rattle.meaning.proofs.Answers.{clash}
 use Rattle.meaning.proofs.Sets.{sets-apart, sets-at}
 use Rattle.layout.specs.Table.{nodesOf, rulesOf, nodeAt, grammarOf}
 use Rattle.layout.proofs.Laying.{well-laid, closed}
@@ -29,9 +31,9 @@ pub some-rule : {table line w : List ℕ} {allowance : ℕ} {free : Bool} {mask 
 some-rule {table} s = well-laid table (laid table (s .fitting .accepted)) .some-rule
 
 -- From the words w₀, with no turn waiting, no cell in use, no visit made and no range visited.
-module _ (table line w₀ w : List ℕ) (allowance flag at mask : ℕ) (free : Bool) (s : Startable table line w₀ allowance free mask) (ef : ltb 0 flag ≡ free) (ea : at ≡ nodeAt (rulesOf table) 0) (ew : w ≡ sets w₀ 2041 (0 ∷ 0 ∷ 0 ∷ 0 ∷ [])) where
+module _ (table line w₀ w : List ℕ) (allowance each at mask : ℕ) (free : Bool) (s : Startable table line w₀ allowance free mask) (ee : each ≡ cond free (nodesOf table) 0) (ea : at ≡ nodeAt (rulesOf table) 0) (ew : w ≡ sets w₀ 2041 (0 ∷ 0 ∷ 0 ∷ 0 ∷ [])) where
   abbrev given : Given
-  given = lent table (allowance ∷ flag ∷ at ∷ mask ∷ [])
+  given = lent table (allowance ∷ each ∷ at ∷ mask ∷ [])
 
   long : length w ≡ length w₀
   long = ap length ew ∙ length-sets w₀ 2041 (0 ∷ 0 ∷ 0 ∷ 0 ∷ [])
@@ -55,8 +57,22 @@ module _ (table line w₀ w : List ℕ) (allowance flag at mask : ℕ) (free : B
   above : (i : ℕ) → 2045 ≤ i → getD w i 0 ≡ getD w₀ i 0
   above i h = ap (λ l. getD l i 0) ew ∙ sets-apart (0 ∷ 0 ∷ 0 ∷ 0 ∷ []) w₀ 2041 i (λ l. omega arith)
 
+  -- Answers are kept on a free sheet, and there is a node.
+  by-free : (b : Bool) → each ≡ cond b (nodesOf table) 0 → (ltb 0 each ≡ b) × (b ≡ true → each ≡ nodesOf table)
+  by-free true e = let n = well-laid table (laid table (s .fitting .accepted)) .some-node in (lt-ltb 0 each (omega arith), λ q. e)
+  by-free false e = (le-ltb 0 each (omega arith), λ q. clash q refl)
+
+  ef : keepsIn given ≡ free
+  ef = by-free free ee .0
+
   fit : Fit given line
-  fit = record { laid = laid _ (s .fitting .accepted); first = ea; short = s .fitting .short; allowance = s .fitting .allowed }
+  fit = record {
+    laid = laid _ (s .fitting .accepted);
+    first = ea;
+    each = λ k. by-free free ee .1 (sym ef ∙ k);
+    short = s .fitting .short;
+    allowance = s .fitting .allowed;
+  }
 
   zero-at : keepsIn given ≡ true → (i : ℕ) → baseIn given ≤ i → i < roomIn given line → getD w i 0 ≡ 0
   zero-at k i a b = above i (omega arith) ∙ s .kept (sym ef ∙ k) i a b
@@ -70,8 +86,8 @@ module _ (table line w₀ w : List ℕ) (allowance flag at mask : ℕ) (free : B
         arena = subst (λ l. Arena l 0) (sym ew) (arena-below w₀ 0 2041 (0 ∷ 0 ∷ 0 ∷ 0 ∷ []) (omega arith) (s .arena));
         held-lists = λ i h. absurd (omega arith);
         held-ends = λ i h. absurd (omega arith);
-        kept-lists = λ k j h. let z = zero-at k (baseIn given + j * 2 + 1) (omega arith) (omega arith) in omega arith;
-        kept-ends = λ k j h. let z = zero-at k (baseIn given + j * 2) (omega arith) (omega arith) in omega arith;
+        kept-lists = λ k i x li lx. let z = zero-at k (placeIn given i x + 1) (omega arith) (omega (arith, pair-in given line fit k i x li lx)) in omega arith;
+        kept-ends = λ k i x li lx. let z = zero-at k (placeIn given i x) (omega arith) (omega (arith, pair-in given line fit k i x li lx)) in omega arith;
       }
 
   pub ready : Starts given line w 512 (rootIn given 0) 0
@@ -86,10 +102,10 @@ module _ (table line w₀ w : List ℕ) (allowance flag at mask : ℕ) (free : B
     order = λ e. record { rising = λ i j a b. absurd (omega arith); newest = λ i h. absurd (omega arith); ahead = λ i h. absurd (omega arith) };
   })
 
-  none-kept : keepsIn given ≡ true → (i x : ℕ) → i < nodesIn given → x ≤ length line → look [] i x ≡ keptAt w (placeIn given line i x)
+  none-kept : keepsIn given ≡ true → (i x : ℕ) → i < nodesIn given → x ≤ length line → look [] i x ≡ keptAt w (placeIn given i x)
   unfolding look keptAs
   none-kept k i x li lx =
-      let z : getD w (placeIn given line i x) 0 ≡ 0 = zero-at k _ (omega arith) (let q = pair-in given line i x li lx in omega arith) in
+      let z : getD w (placeIn given i x) 0 ≡ 0 = zero-at k _ (omega arith) (let q = pair-in given line fit k i x li lx in omega arith) in
       rw z refl
 
   stands : Stands given line w 0 0 [] (starting allowance)

@@ -11,6 +11,7 @@ pub use Rattle.visits.specs.Given.{longestLine, mostAllowance, workNeeded}
 use Rattle.meaning.specs.Reading.{made, Run, effort, deep, done, read}
 use Rattle.layout.specs.Table.{nodesOf, grammarOf}
 use Rattle.sheet.specs.Check.{checkOf}
+use Rattle.stored.specs.Version.{versionOf}
 use Rattle.stored.specs.Stored.{recordsOf, storedLength, storedOf}
 use Rattle.reader.specs.declared.Reading.{Reading}
 
@@ -39,10 +40,6 @@ ROOM = 16
 abbrev pub mostRecords : ℕ
 mostRecords = 1000
 
--- The bytes of a position in the stored reading.
-abbrev pub positionWidth : ℕ
-positionWidth = 1
-
 -- What comes back, and the final contents of what was lent to be written.
 pub record Outcome : Type 0 where
   pub reading : Reading
@@ -56,13 +53,14 @@ numbers code place matched visits records furthest = record { code = code; place
 unfoldable pub cleared : ℕ → List ℕ → List ℕ
 cleared k work = replicate k 0 ++ drop k work
 
--- Where rule 0 matched up to e with the tree ts, after so many visits, with the furthest position reached. 01's rows 14, 15, 16 and 0.
+-- Where rule 0 matched up to e with the tree ts, after so many visits, with the furthest position reached. 01's rows 14, 15, 16 and 0. The line's length gives the version that is
+-- stored, and by its length the row ROOM.
 unfoldable pub matchOutcome : (whole : Bool) (long e : ℕ) → Trees → (visits furthest : ℕ) → (work room : List ℕ) → Outcome
 matchOutcome whole long e ts visits furthest work room =
     cond (whole && ltb e long) (record { reading = numbers REST e e visits 0 furthest; work = work; room = room })
     (cond (ltb mostRecords (recordsOf ts)) (record { reading = numbers RECORDS e e visits (mostRecords + 1) furthest; work = work; room = room })
-    (cond (ltb (length room) (storedLength positionWidth (recordsOf ts))) (record { reading = numbers ROOM e e visits (recordsOf ts) furthest; work = work; room = room })
-    (record { reading = numbers 0 0 e visits (recordsOf ts) furthest; work = work; room = storedOf positionWidth ts ++ drop (storedLength positionWidth (recordsOf ts)) room })))
+    (cond (ltb (length room) (storedLength (versionOf long) (recordsOf ts))) (record { reading = numbers ROOM e e visits (recordsOf ts) furthest; work = work; room = room })
+    (record { reading = numbers 0 0 e visits (recordsOf ts) furthest; work = work; room = storedOf (versionOf long) ts ++ drop (storedLength (versionOf long) (recordsOf ts)) room })))
 
 -- How a reading ended, by 01's rows 11 to 16 and 0; visits is the number made, furthest the largest position at which a range was visited.
 unfoldable pub runOutcome : (whole : Bool) (long allowance : ℕ) → Run → (work room : List ℕ) → Outcome

@@ -3,7 +3,7 @@
 // In go the table, the line, the allowance, working numbers and room for the stored reading; out come code, place, matched length, visits and
 // records, exactly as 01's table of codes has them, and the furthest position at which a range was visited (specs/Answer, readingOf). No table, line, allowance or buffer is asked to be good: each
 // refusal is an answer. Codes 1 to 10 and 17 change nothing; else the first working numbers, as many as 01's formula says, are zero, and only a
-// reading (code 0) writes the room: the stored reading at its front.
+// reading (code 0) writes the room: the stored reading at its front, in the version that the line's length gives.
 // The reader relies on the check's promise alone for every node that it visits.
 ghost use mathlib.Core.Path.{_≡_};
 ghost use mathlib.Core.Bool.{true, false, _&&_, cond};
@@ -13,7 +13,7 @@ ghost use lib.Dec.{ltb};
 ghost use Rattle.meaning.specs.Reading.{read};
 ghost use Rattle.layout.specs.Table.{nodesOf, grammarOf};
 ghost use Rattle.empties.specs.Empties.{EmptyNodes};
-ghost use Rattle.reader.specs.Answer.{numbers, workNeeded, cleared, runOutcome, readingOf, Leaves};
+ghost use Rattle.reader.specs.Answer.{longestLine, mostAllowance, numbers, workNeeded, cleared, runOutcome, readingOf, Leaves};
 ghost use Rattle.visits.specs.Says.{after-visit};
 ghost use Rattle.reader.specs.Steps.{Filled, Fitting, Startable, Tells, Visiting, Finishable, Finished};
 
@@ -27,9 +27,7 @@ pub struct Reading {
     pub furthest: u64,
 }
 
-pub const LONGEST_LINE: usize = 255;
-
-pub const MOST_ALLOWANCE: u64 = 1000000;
+pub const MOST_ALLOWANCE: u64 = 5000000;
 
 const MOST_RECORDS: u32 = 1000;
 
@@ -60,11 +58,14 @@ fn clear(work: &mut [u32], from: usize, to: usize)
     }
 }
 
-// 1 for yes.
-fn flag(yes: bool) -> u64
-    ensures { λ r. ⌜ ltb 0 r ≡ yes ⌝ }
+// How many answers are kept for each position: one for each node on a free sheet, else none.
+fn kept_each(free: bool, nodes: usize) -> u64
+    ensures { λ r. ⌜ r ≡ cond free nodes 0 ⌝ }
 {
-    if yes { 1 } else { 0 }
+    if free {
+        return nodes as u64;
+    }
+    0
 }
 
 // The use of rule 0 at position 0, which is not itself a visit; what it answers.
@@ -81,7 +82,8 @@ fn start(
     ensures tells { λ r. ⌜ Tells allowance (length (now (line .entry))) (now (work .exit)) (after-visit r (now (work .exit))) (read (grammarOf (now (table .entry))) (now (line .entry)) allowance) ⌝ }
 {
     let first = layout::first_node(table) as u64;
-    let given = [allowance as u64, flag(free), first, left_recursive];
+    let each = kept_each(free, layout::node_count(table));
+    let given = [allowance as u64, each, first, left_recursive];
     let mut answer = 0u64;
     visits::no_visits(work);
     visits::read_line(&given, table, line, work, &mut answer);
@@ -100,7 +102,7 @@ fn unread(whole: bool, end: u64, long: u64) -> bool
 
 // How the visits ended, by 01's rows 11 to 16 and 0; only a reading writes the room.
 fn finish(line: &[u8], work: &[u32], room: &mut [u8], whole: bool, answer: u64) -> Reading
-    requires { ⌜ Finishable (length (now line)) (now work) (after-visit answer (now work)) × (length (now line) ≤ 255) ⌝ }
+    requires { ⌜ Finishable (length (now line)) (now work) (after-visit answer (now work)) × (length (now line) ≤ longestLine) ⌝ }
     ensures { λ r. ⌜ Finished whole (length (now (line .entry))) (now (work .entry)) (after-visit answer (now (work .entry))) r (now (room .entry)) (now (room .exit)) ⌝ }
 {
     let made = visits::visits_made(work) as u64;
@@ -151,7 +153,8 @@ fn finish(line: &[u8], work: &[u32], room: &mut [u8], whole: bool, answer: u64) 
             furthest: furthest,
         };
     }
-    if room.len() < 5 + 5 * records as usize {
+    let version = stored::version_of(line.len());
+    if room.len() < stored::stored_length(version, records) as usize {
         return Reading {
             code: ROOM,
             place: end,
@@ -161,7 +164,7 @@ fn finish(line: &[u8], work: &[u32], room: &mut [u8], whole: bool, answer: u64) 
             furthest: furthest,
         };
     }
-    cells::write(work, room, 1, list);
+    cells::write(work, room, version, list);
     Reading {
         code: 0,
         place: 0,
@@ -229,7 +232,7 @@ fn turned_away(code: u64, place: u64) -> Reading
 
 // 01: "2,048 + 4 x allowance + 2 x n x (L + 1)".
 fn work_needed(allowance: usize, nodes: usize, long: usize) -> usize
-    requires { ⌜ (allowance ≤ 1000000) × ((nodes ≤ 512) × (long ≤ 255)) ⌝ }
+    requires { ⌜ (allowance ≤ mostAllowance) × ((nodes ≤ 512) × (long ≤ longestLine)) ⌝ }
     ensures { λ r. ⌜ r ≡ workNeeded allowance nodes long ⌝ }
 {
     2048 + 4 * allowance + 2 * (nodes * (long + 1))
@@ -251,7 +254,7 @@ fn read_by(
     if v.code != sheet::READ {
         return turned_away(v.code as u64, v.place as u64);
     }
-    if LONGEST_LINE < line.len() {
+    if stored::LONGEST_LINE < line.len() {
         return turned_away(LINE, 0);
     }
     if allowance == 0 {

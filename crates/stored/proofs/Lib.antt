@@ -7,3 +7,4 @@ pub mod Written
 pub mod ReadBack
 pub mod Taking
 pub mod OneTree
+pub mod Versions

@@ -39,14 +39,14 @@ length-records w bytes at zero = refl
 length-records w bytes at (suc n) = ap suc (length-records w bytes (at + recordSize w) n)
 
 -- 01: "slice length, bytes 1-2 and formula agree", and the rest of what is said of well-formed bytes.
-record Parts (w r l : ℕ) (bytes : List ℕ) : Type 0 where
-  version : getD bytes 0 0 ≡ w
+pub record Parts (w r l : ℕ) (bytes : List ℕ) : Type 0 where
+  pub version : getD bytes 0 0 ≡ w
   long : numberAt 2 bytes 1 ≡ length bytes
   formula : storedLength w (numberAt 2 bytes 3) ≡ length bytes
   range : allInRange r l (recordsAt w bytes 5 (numberAt 2 bytes 3)) ≡ true
   last : onlyLast (goes (recordsAt w bytes 5 (numberAt 2 bytes 3)) []) ≡ true
 
-parts : (w r l : ℕ) (bytes : List ℕ) → wellFormedOf w r l bytes ≡ true → Parts w r l bytes
+pub parts : (w r l : ℕ) (bytes : List ℕ) → wellFormedOf w r l bytes ≡ true → Parts w r l bytes
 unfolding wellFormedOf
 parts w r l bytes e =
     let n = numberAt 2 bytes 3 in

@@ -1,3 +1,4 @@
+pub mod Version
 pub mod Stored
 pub mod WellFormed
 pub mod Nested

@@ -1,4 +1,4 @@
--- 01, "The stored reading", over the width of a position: one byte in version 1.
+-- 01, "The stored reading", over the width of a position: one byte in version 1; 02, W-212: two bytes in version 2.
 use mathlib.Core.List.{List, [], _∷_, _++_}
 use Prim.Native.Nat.{ℕ, zero, suc, _+_, _*_, _/_, _%_}
 use lib.ListN.{drop}
@@ -19,7 +19,7 @@ unfoldable pub inBytes : ℕ → ℕ → List ℕ
 inBytes zero n = []
 inBytes (suc w) n = inBytes w (n / 256) ++ (n % 256 ∷ [])
 
--- 01: "five bytes for each record": one for the rule, two for the number of children, and two positions.
+-- 01: "five bytes for each record": one for the rule, two for the number of children, and two positions. 02, W-212: "seven bytes a record".
 abbrev pub recordSize : ℕ → ℕ
 recordSize w = 3 + 2 * w
 
@@ -32,7 +32,7 @@ unfoldable pub treesBytes : ℕ → Trees → List ℕ
 treesBytes w no-trees = []
 treesBytes w (tree a x e cs ts) = treesBytes w cs ++ (recordBytes w a x e (numberOf cs) ++ treesBytes w ts)
 
--- 01: "Length is 5 + 5 x records."
+-- 01: "Length is 5 + 5 x records." So with the version's record size.
 abbrev pub storedLength : ℕ → ℕ → ℕ
 storedLength w n = 5 + recordSize w * n
 

@@ -4,6 +4,7 @@ use mathlib.Core.List.{List, [], _∷_}
 use Prim.Native.Nat.{ℕ, zero, suc, _+_, _*_}
 use lib.ListN.{length, getD}
 use lib.Dec.{leb, ltb, eqb}
+use Rattle.stored.specs.Version.{longestLine, versionOf}
 use Rattle.stored.specs.Stored.{recordSize, storedLength}
 
 -- The number in w bytes from p on, the highest first.
@@ -65,9 +66,13 @@ unfoldable pub onlyLast : Untaken → Bool
 onlyLast fault = false
 onlyLast (untaken us) = eqb (length us) 1
 
--- 01: "the version is 1, slice length, bytes 1-2 and formula agree, it has a record", and what is said of its records.
+-- 01: "the version is 1, slice length, bytes 1-2 and formula agree, it has a record", and what is said of its records. So for version w.
 unfoldable pub wellFormedOf : ℕ → ℕ → ℕ → List ℕ → Bool
 wellFormedOf w r l bytes =
     let n = numberAt 2 bytes 3 in
     let xs = recordsAt w bytes 5 n in
     eqb (getD bytes 0 0) w && eqb (numberAt 2 bytes 1) (length bytes) && eqb (storedLength w n) (length bytes) && ltb 0 n && allInRange r l xs && onlyLast (goes xs [])
+
+-- 02, W-212: "each version is well formed only for its lines", and for a line that is too long nothing is.
+unfoldable pub isWellFormed : ℕ → ℕ → List ℕ → Bool
+isWellFormed r l bytes = leb l longestLine && wellFormedOf (versionOf l) r l bytes

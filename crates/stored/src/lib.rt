@@ -1,10 +1,12 @@
 // The stored reading: a tree as bytes, and whether bytes are such a reading.
 //
 // specs/Stored says what the bytes of a tree are and specs/WellFormed which bytes are well formed, both in document 01's words and over
-// the width of a position: one byte in version 1, and the version is the width. put_head and put_record write it piece by piece, each
-// over what stands in the room; well_formed judges any slice, however long, with scratch of its own.
+// the width of a position: one byte in version 1, two in version 2, and the version is the width. specs/Version says which version a line
+// gives, by its length alone. put_head and put_record write it piece by piece, each over what stands in the room; well_formed judges any
+// slice, however long, with scratch of its own.
 // proofs/Written shows that what is stored of a tree whose spans nest (specs/Nested) is well formed; proofs/OneTree that well-formed bytes
-// are stored of exactly one tree, which treeOf (specs/ReadBack) reads back from them.
+// are stored of exactly one tree, which treeOf (specs/ReadBack) reads back from them; proofs/Versions that each version is well formed only
+// for its lines.
 
 ghost use mathlib.Core.Path.{_≡_};
 ghost use Prim.Native.Nat.{ℕ, _+_, _*_, _%_, _<_, _≤_};
@@ -12,9 +14,34 @@ ghost use mathlib.Core.List.{[]};
 ghost use mathlib.Core.Bool.{_&&_};
 ghost use lib.ListN.{length};
 ghost use lib.Seq.{sets};
-ghost use Rattle.stored.specs.Stored.{inBytes, recordSize, recordBytes, headBytes};
-ghost use Rattle.stored.specs.WellFormed.{numberAt, recordsAt, allInRange, takes, goes, onlyLast, wellFormedOf};
+ghost use Rattle.stored.specs.Version.{versionOf};
+ghost use Rattle.stored.specs.Stored.{inBytes, recordSize, recordBytes, storedLength, headBytes};
+ghost use Rattle.stored.specs.WellFormed.{numberAt, recordsAt, allInRange, takes, goes, onlyLast, wellFormedOf, isWellFormed};
 ghost use Rattle.stored.specs.Scratch.{spansOf, leftOf, IsRecord};
+
+pub const LONGEST_LINE: usize = 4000;
+
+// The longest line whose positions stand in one byte.
+const LONGEST_IN_ONE_BYTE: usize = 255;
+
+// The version that a line of so many bytes gives: the bytes of a position.
+pub fn version_of(line_length: usize) -> usize
+    ensures is { λ r. ⌜ r ≡ versionOf «line_length» ⌝ }
+    ensures widths { λ r. ⌜ (0 < r) × (r ≤ 2) ⌝ }
+{
+    if line_length <= LONGEST_IN_ONE_BYTE {
+        return 1;
+    }
+    2
+}
+
+// The bytes of a stored reading with so many records.
+pub fn stored_length(width: usize, records: u32) -> u32
+    requires { ⌜ (width ≤ 2) × (records < 65536) ⌝ }
+    ensures { λ r. ⌜ r ≡ storedLength width records ⌝ }
+{
+    5 + (3 + 2 * width as u32) * records
+}
 
 fn wide(x: u8) -> u32
     ensures { λ r. ⌜ (r ≡ x) × (r < 256) ⌝ }
@@ -68,7 +95,7 @@ pub fn put_head(room: &mut [u8], width: usize, records: u32)
 {
     let version = width as u32;
     put_number(room, 0, 1, version);
-    put_number(room, 1, 2, 5 + (3 + 2 * version) * records);
+    put_number(room, 1, 2, stored_length(width, records));
     put_number(room, 3, 2, records);
 }
 
@@ -189,20 +216,31 @@ fn well_formed_by(bytes: &[u8], width: usize, rules: u32, line_length: u32) -> b
     if length != bytes.len() {
         return false;
     }
-    let records = number_at(bytes, 3, 2) as usize;
-    if 5 + (3 + 2 * width) * records != length {
+    let records = number_at(bytes, 3, 2);
+    if stored_length(width, records) as usize != length {
         return false;
     }
     if records == 0 {
         return false;
     }
     let mut spans = [0u32; 13106];
-    go_through(bytes, &mut spans, width, rules, line_length, records)
+    go_through(
+        bytes,
+        &mut spans,
+        width,
+        rules,
+        line_length,
+        records as usize,
+    )
 }
 
-// Whether a stored reading is well formed for so many rules and a line of so many bytes.
+// Whether a stored reading is well formed for so many rules and a line of so many bytes: each version only for its lines.
 pub fn well_formed(stored: &[u8], rules: u32, line_length: u32) -> bool
-    ensures { λ r. ⌜ r ≡ wellFormedOf 1 rules «line_length» (now (stored .entry)) ⌝ }
+    ensures { λ r. ⌜ r ≡ isWellFormed rules «line_length» (now (stored .entry)) ⌝ }
 {
-    well_formed_by(stored, 1, rules, line_length)
+    let long = line_length as usize;
+    if LONGEST_LINE < long {
+        return false;
+    }
+    well_formed_by(stored, version_of(long), rules, line_length)
 }

@@ -12,7 +12,7 @@ use Rattle.meaning.specs.Grammar.{Trees, Answer, Note}
 use Rattle.cells.specs.Cells.{recordsFrom, treesAt}
 use Rattle.cells.proofs.Frame.{trees-same, arena-same}
 use Rattle.layout.proofs.Laying.{well-laid}
-use Rattle.visits.specs.Given.{Given, nodesIn, keepsIn, baseIn, allowanceIn, pairsIn, Fit}
+use Rattle.visits.specs.Given.{Given, longestLine, nodesIn, keptEachIn, keepsIn, baseIn, allowanceIn, pairsIn, Fit}
 use Rattle.visits.specs.Words.{HeldAs, Entry, Lives, turnsIn, topIn, madeIn, furthestIn, reachedIn, placeIn, keptAs, keptAt, Stands, Words, Same, Added}
 
 -- What the live uses and the lists of trees stand for depends on these words alone.
@@ -68,21 +68,24 @@ module _ (given : Given) (line : List ℕ) where
     lives-same = alike-lives (same-alike same)
 
   -- A pair's number is below the number of pairs.
-  pub pair-in : (i x : ℕ) → i < nodesIn given → x ≤ length line → i * (length line + 1) + x < pairsIn given line
-  pair-in i x li lx = let z : (i + 1) * (length line + 1) ≤ pairsIn given line = mul-le-mul-right (length line + 1) (omega arith) in omega arith
+  pub pair-in : Fit given line → keepsIn given ≡ true → (i x : ℕ) → i < nodesIn given → x ≤ length line → x * keptEachIn given + i < pairsIn given line
+  pair-in fit free i x li lx =
+      let e = fit .each free in
+      let z : (x + 1) * nodesIn given ≤ (length line + 1) * nodesIn given = mul-le-mul-right (nodesIn given) (omega arith) in
+      rw e (omega arith)
 
-  pub pairs-few : Fit given line → pairsIn given line ≤ 131072
-  pairs-few fit = let l : length line + 1 ≤ 256 = let z = fit .short in omega arith in mul-le-mul (well-laid (given .table) (fit .laid) .few-nodes) l
+  pub pairs-few : Fit given line → pairsIn given line ≤ 512 * (longestLine + 1)
+  pairs-few fit = let l : length line + 1 ≤ longestLine + 1 = let z = fit .short in omega arith in mul-le-mul (well-laid (given .table) (fit .laid) .few-nodes) l
 
   kept-as : (v v′ : ℕ) (ts us : Trees) → v′ ≡ v → us ≡ ts → keptAs v′ us ≡ keptAs v ts
   kept-as v v′ ts us e f = rw (e, f)
 
   module _ {old new : List ℕ} {live top : ℕ} (alike : Alike old new live top) (kept : (i : ℕ) → baseIn given ≤ i → getD new i 0 ≡ getD old i 0) (words : Words given line old live top) where
-    kept-same : keepsIn given ≡ true → (i x : ℕ) → i < nodesIn given → x ≤ length line → keptAt new (placeIn given line i x) ≡ keptAt old (placeIn given line i x)
+    kept-same : keepsIn given ≡ true → (i x : ℕ) → i < nodesIn given → x ≤ length line → keptAt new (placeIn given i x) ≡ keptAt old (placeIn given i x)
     kept-same free i x li lx =
-        let list : getD new (placeIn given line i x + 1) 0 ≡ getD old (placeIn given line i x + 1) 0 = kept _ (omega arith) in
-        let le : getD old (placeIn given line i x + 1) 0 ≤ top = words .kept-lists free (i * (length line + 1) + x) (pair-in i x li lx) in
-        kept-as _ _ _ _ (kept _ (omega arith)) (rw list (alike-trees alike (getD old (placeIn given line i x + 1) 0) le))
+        let list : getD new (placeIn given i x + 1) 0 ≡ getD old (placeIn given i x + 1) 0 = kept _ (omega arith) in
+        let le : getD old (placeIn given i x + 1) 0 ≤ top = words .kept-lists free i x li lx in
+        kept-as _ _ _ _ (kept _ (omega arith)) (rw list (alike-trees alike (getD old (placeIn given i x + 1) 0) le))
 
     -- A step that leaves the kept answers too, with the furthest position that the words now hold.
     stands-far : {made : ℕ} {l : List Note} {s : State} (far : ℕ) → far ≡ furthestIn new → Stands given line old live made l s
@@ -127,8 +130,8 @@ module _ (given : Given) (line : List ℕ) where
           arena = made .arena;
           held-lists = λ i lt. omega (arith, made-same .uses (i * 3 + 2) (omega arith), h .held-lists i lt);
           held-ends = λ i lt. omega (arith, made-same .uses (i * 3 + 1) (omega arith), h .held-ends i lt);
-          kept-lists = λ free j lt. omega (arith, made-kept fit (omega arith) made (baseIn given + j * 2 + 1) (omega arith), h .kept-lists free j lt);
-          kept-ends = λ free j lt. omega (arith, made-kept fit (omega arith) made (baseIn given + j * 2) (omega arith), h .kept-ends free j lt);
+          kept-lists = λ free j y lj ly. omega (arith, made-kept fit (omega arith) made (placeIn given j y + 1) (omega arith), h .kept-lists free j y lj ly);
+          kept-ends = λ free j y lj ly. omega (arith, made-kept fit (omega arith) made (placeIn given j y) (omega arith), h .kept-ends free j y lj ly);
         }
 
     pub made-stands : Words given line old live top → {visits : ℕ} {l : List Note} {s : State} → Stands given line old live visits l s → Stands given line new live visits l s
@@ -151,8 +154,8 @@ module _ (given : Given) (line : List ℕ) where
             arena = arena-same w (set w k n) top (alike .cells) (length-set w k n) (words .arena);
             held-lists = λ i lt. omega (arith, alike .uses (i * 3 + 2) (omega arith), words .held-lists i lt);
             held-ends = λ i lt. omega (arith, alike .uses (i * 3 + 1) (omega arith), words .held-ends i lt);
-            kept-lists = λ free j lt. omega (arith, written-kept (baseIn given + j * 2 + 1) (omega arith), words .kept-lists free j lt);
-            kept-ends = λ free j lt. omega (arith, written-kept (baseIn given + j * 2) (omega arith), words .kept-ends free j lt);
+            kept-lists = λ free j y lj ly. omega (arith, written-kept (placeIn given j y + 1) (omega arith), words .kept-lists free j y lj ly);
+            kept-ends = λ free j y lj ly. omega (arith, written-kept (placeIn given j y) (omega arith), words .kept-ends free j y lj ly);
           }
 
   -- That of the visits made, or that of the furthest position.

@@ -17,7 +17,7 @@ use Rattle.meaning.proofs.Notes.{look-same, look-other}
 use Rattle.meaning.proofs.Sets.{sets-apart, sets-at}
 use Rattle.cells.specs.Cells.{treesAt}
 use Rattle.cells.proofs.Frame.{arena-same}
-use Rattle.visits.specs.Given.{Given, lent, nodesIn, keepsIn, growsIn, wayIn, baseIn, allowanceIn, pairsIn, grammarIn, Fit}
+use Rattle.visits.specs.Given.{Given, lent, nodesIn, keptEachIn, keepsIn, growsIn, wayIn, baseIn, allowanceIn, grammarIn, Fit}
 use Rattle.visits.specs.Words.{placeIn, keptAs, keptAt, Stands, Words, Same, Kept}
 use Rattle.visits.specs.Says.{Visited, FAILED, STOPPED, Says, Came}
 use Rattle.visits.proofs.Frame.{pair-in, same-trees, lives-same}
@@ -47,38 +47,38 @@ by-same {P} i j f g = by-test (eqb i j) refl
     by-test false e = g (eqb-false i j e)
 
 -- What is kept lies above all the other words.
-pub kept-others : (given : Given) (line old new : List ℕ) (i x end list j : ℕ) → Kept given line old new i x end list → end ≤ FAILED → j < baseIn given → getD new j 0 ≡ getD old j 0
-kept-others given line old new i x end list j k most h = by-same end STOPPED (λ e. ap (λ w. getD w j 0) (k .stopped e))
-    (λ n. by-same end FAILED (λ e. ap (λ w. getD w j 0) (k .failed e) ∙ put-other old (placeIn given line i x) 1 0 j (omega arith) (omega arith))
-    (λ m. ap (λ w. getD w j 0) (k .matched (omega arith)) ∙ put-other old (placeIn given line i x) (end + 2) list j (omega arith) (omega arith)))
+pub kept-others : (given : Given) (old new : List ℕ) (i x end list j : ℕ) → Kept given old new i x end list → end ≤ FAILED → j < baseIn given → getD new j 0 ≡ getD old j 0
+kept-others given old new i x end list j k most h = by-same end STOPPED (λ e. ap (λ w. getD w j 0) (k .stopped e))
+    (λ n. by-same end FAILED (λ e. ap (λ w. getD w j 0) (k .failed e) ∙ put-other old (placeIn given i x) 1 0 j (omega arith) (omega arith))
+    (λ m. ap (λ w. getD w j 0) (k .matched (omega arith)) ∙ put-other old (placeIn given i x) (end + 2) list j (omega arith) (omega arith)))
 
 module _ (given : Given) (line : List ℕ) where
   abbrev pair : ℕ → ℕ → ℕ
-  pair i x = i * (length line + 1) + x
+  pair i x = x * keptEachIn given + i
 
-  less-pair : (i x j y : ℕ) → x ≤ length line → i < j → pair i x < pair j y
-  less-pair i x j y lx lt = let z : (i + 1) * (length line + 1) ≤ j * (length line + 1) = mul-le-mul-right (length line + 1) (omega arith) in omega arith
+  less-pair : (i x j y : ℕ) → i < keptEachIn given → x < y → pair i x < pair j y
+  less-pair i x j y li lt = let z : (x + 1) * keptEachIn given ≤ y * keptEachIn given = mul-le-mul-right (keptEachIn given) (omega arith) in omega arith
 
   -- Two pairs with one number are one pair.
-  same-node : (i x j y : ℕ) → x ≤ length line → y ≤ length line → pair i x ≡ pair j y → i ≡ j
-  same-node i x j y lx ly e = apart (λ lt. let z = less-pair i x j y lx lt in absurd (omega arith)) (λ lt. let z = less-pair j y i x ly lt in absurd (omega arith))
+  same-position : (i x j y : ℕ) → i < keptEachIn given → j < keptEachIn given → pair i x ≡ pair j y → x ≡ y
+  same-position i x j y li lj e = apart (λ lt. let z = less-pair i x j y li lt in absurd (omega arith)) (λ lt. let z = less-pair j y i x lj lt in absurd (omega arith))
     where
-      apart : (i < j → ⊥) → (j < i → ⊥) → i ≡ j
-      apart f h = by-same i j (λ q. q) (λ q. absurd (split q f h))
+      apart : (x < y → ⊥) → (y < x → ⊥) → x ≡ y
+      apart f h = by-same x y (λ q. q) (λ q. absurd (split q f h))
         where
-          split : i ≢ j → (i < j → ⊥) → (j < i → ⊥) → ⊥
-          split q f h = let p : ¬ (i < j) = f in let r : ¬ (j < i) = h in omega arith
+          split : x ≢ y → (x < y → ⊥) → (y < x → ⊥) → ⊥
+          split q f h = let p : ¬ (x < y) = f in let r : ¬ (y < x) = h in omega arith
 
-  same-position : (i x j y : ℕ) → pair i x ≡ pair j y → i ≡ j → x ≡ y
-  same-position i x j y e q = let z : i * (length line + 1) ≡ j * (length line + 1) = ap (λ n. n * (length line + 1)) q in omega arith
+  same-node : (i x j y : ℕ) → pair i x ≡ pair j y → x ≡ y → i ≡ j
+  same-node i x j y e q = let z : x * keptEachIn given ≡ y * keptEachIn given = ap (λ n. n * keptEachIn given) q in omega arith
 
   module _ (fit : Fit given line) {w : List ℕ} {live top : ℕ} (words : Words given line w live top) (free : keepsIn given ≡ true) (few : live * 3 ≤ 2041) (low : top ≤ allowanceIn given)
       (i x : ℕ) (li : i < nodesIn given) (lx : x ≤ length line) where
     abbrev place : ℕ
-    place = placeIn given line i x
+    place = placeIn given i x
 
     in-room : place + 1 < length w
-    in-room = let z = pair-in given line i x li lx in let r = words .room in omega arith
+    in-room = let z = pair-in given line fit free i x li lx in let r = words .room in omega arith
 
     module _ (word list : ℕ) (ends : word ≤ length line + 2) (lists : list ≤ top) where
       abbrev new : List ℕ
@@ -86,7 +86,7 @@ module _ (given : Given) (line : List ℕ) where
 
       pub keep-same : Same given line w new live top
       keep-same =
-          let z = pair-in given line i x li lx in
+          let z = pair-in given line fit free i x li lx in
           record {
             uses = λ j h. put-other w place word list j (omega arith) (omega arith);
             cells = λ j p q. put-other w place word list j (omega arith) (omega arith);
@@ -95,15 +95,15 @@ module _ (given : Given) (line : List ℕ) where
             past = λ j h. put-other w place word list j (omega arith) (omega arith);
           }
 
-      kept-list : (j : ℕ) → j < pairsIn given line → getD new (baseIn given + j * 2 + 1) 0 ≤ top
-      kept-list j lt = by-same j (pair i x)
-          (λ e. let f : getD new (baseIn given + j * 2 + 1) 0 ≡ list = ap (λ k. getD new (baseIn given + k * 2 + 1) 0) e ∙ put-second w place word list in-room in omega arith)
-          (λ n. omega (arith, put-other w place word list (baseIn given + j * 2 + 1) (omega arith) (omega arith), words .kept-lists free j lt))
+      kept-list : (j y : ℕ) → j < nodesIn given → y ≤ length line → getD new (placeIn given j y + 1) 0 ≤ top
+      kept-list j y lj ly = by-same (pair j y) (pair i x)
+          (λ e. let f : getD new (placeIn given j y + 1) 0 ≡ list = ap (λ k. getD new (baseIn given + k * 2 + 1) 0) e ∙ put-second w place word list in-room in omega arith)
+          (λ n. omega (arith, put-other w place word list (placeIn given j y + 1) (omega arith) (omega arith), words .kept-lists free j y lj ly))
 
-      kept-end : (j : ℕ) → j < pairsIn given line → getD new (baseIn given + j * 2) 0 ≤ length line + 2
-      kept-end j lt = by-same j (pair i x)
-          (λ e. let r = in-room in let f : getD new (baseIn given + j * 2) 0 ≡ word = ap (λ k. getD new (baseIn given + k * 2) 0) e ∙ put-first w place word list (omega arith) in omega arith)
-          (λ n. omega (arith, put-other w place word list (baseIn given + j * 2) (omega arith) (omega arith), words .kept-ends free j lt))
+      kept-end : (j y : ℕ) → j < nodesIn given → y ≤ length line → getD new (placeIn given j y) 0 ≤ length line + 2
+      kept-end j y lj ly = by-same (pair j y) (pair i x)
+          (λ e. let r = in-room in let f : getD new (placeIn given j y) 0 ≡ word = ap (λ k. getD new (baseIn given + k * 2) 0) e ∙ put-first w place word list (omega arith) in omega arith)
+          (λ n. omega (arith, put-other w place word list (placeIn given j y) (omega arith) (omega arith), words .kept-ends free j y lj ly))
 
       pub keep-words : Words given line new live top
       keep-words = record {
@@ -111,8 +111,8 @@ module _ (given : Given) (line : List ℕ) where
         arena = arena-same w new top (keep-same .cells) (length-sets w place (word ∷ list ∷ [])) (words .arena);
         held-lists = λ j lt. omega (arith, keep-same .uses (j * 3 + 2) (omega arith), words .held-lists j lt);
         held-ends = λ j lt. omega (arith, keep-same .uses (j * 3 + 1) (omega arith), words .held-ends j lt);
-        kept-lists = λ f j lt. kept-list j lt;
-        kept-ends = λ f j lt. kept-end j lt;
+        kept-lists = λ f j y lj ly. kept-list j y lj ly;
+        kept-ends = λ f j y lj ly. kept-end j y lj ly;
       }
 
       module _ {made : ℕ} (q : Answer) (is : keptAs word (treesAt w list) ≡ some q) (l : List Note) (s : State) (h : Stands given line w live made l s) where
@@ -124,22 +124,23 @@ module _ (given : Given) (line : List ℕ) where
             let t : treesAt new list ≡ treesAt w list = same-trees given line keep-same list lists in
             rw (a, b, t) is
 
-        there : (j y : ℕ) → j < nodesIn given → y ≤ length line → pair j y ≢ pair i x → keptAt new (placeIn given line j y) ≡ keptAt w (placeIn given line j y)
+        there : (j y : ℕ) → j < nodesIn given → y ≤ length line → pair j y ≢ pair i x → keptAt new (placeIn given j y) ≡ keptAt w (placeIn given j y)
         there j y lj ly n =
-            let a : getD new (placeIn given line j y) 0 ≡ getD w (placeIn given line j y) 0 = put-other w place word list _ (omega arith) (omega arith) in
-            let b : getD new (placeIn given line j y + 1) 0 ≡ getD w (placeIn given line j y + 1) 0 = put-other w place word list _ (omega arith) (omega arith) in
-            let t : treesAt new (getD w (placeIn given line j y + 1) 0) ≡ treesAt w (getD w (placeIn given line j y + 1) 0) =
-            same-trees given line keep-same _ (words .kept-lists free (pair j y) (pair-in given line j y lj ly)) in
+            let a : getD new (placeIn given j y) 0 ≡ getD w (placeIn given j y) 0 = put-other w place word list _ (omega arith) (omega arith) in
+            let b : getD new (placeIn given j y + 1) 0 ≡ getD w (placeIn given j y + 1) 0 = put-other w place word list _ (omega arith) (omega arith) in
+            let t : treesAt new (getD w (placeIn given j y + 1) 0) ≡ treesAt w (getD w (placeIn given j y + 1) 0) =
+            same-trees given line keep-same _ (words .kept-lists free j y lj ly) in
             rw (a, b, t) refl
 
         differs : (j y : ℕ) → pair j y ≢ pair i x → (j ≢ i) ⊎ (y ≢ x)
-        differs j y n = by-same j i (λ e. inr (λ f. n (ap (λ k. k * (length line + 1) + y) e ∙ ap (λ k. i * (length line + 1) + k) f))) (λ e. inl e)
+        differs j y n = by-same j i (λ e. inr (λ f. n (ap (λ k. k * keptEachIn given + j) f ∙ ap (λ k. x * keptEachIn given + k) e))) (λ e. inl e)
 
-        kept-now : (j y : ℕ) → j < nodesIn given → y ≤ length line → look (noted i x q (s .kept)) j y ≡ keptAt new (placeIn given line j y)
+        kept-now : (j y : ℕ) → j < nodesIn given → y ≤ length line → look (noted i x q (s .kept)) j y ≡ keptAt new (placeIn given j y)
         kept-now j y lj ly = by-same (pair j y) (pair i x)
             (λ e.
-            let f : j ≡ i = same-node j y i x ly lx e in
-            let k : y ≡ x = same-position j y i x e f in
+            let each = fit .each free in
+            let k : y ≡ x = same-position j y i x (omega arith) (omega arith) e in
+            let f : j ≡ i = same-node j y i x e k in
             rw (f, k) (look-same (s .kept) i x q ∙ sym here))
             (λ n. look-other (s .kept) i x q j y (differs j y n) ∙ h .kept free j y lj ly ∙ sym (there j y lj ly n))
 
@@ -172,14 +173,14 @@ module _ (given : Given) (line : List ℕ) where
     abbrev keeping-it : List Note → State → Run
     keeping-it l s = after (m l s) (keep i x)
 
-    keep-fail : end ≡ FAILED → Came given line w (pairPut w′ (placeIn given line i x) 1 0) live made top (result FAILED 0 top′ made′) keeping-it
+    keep-fail : end ≡ FAILED → Came given line w (pairPut w′ (placeIn given i x) 1 0) live made top (result FAILED 0 top′ made′) keeping-it
     unfolding keep keptAs
     keep-fail e =
         then-fail given line (fit .short) (λ l. keep i x) c e
         (keep-came fit (c .words) free few low i x li lx 1 0 (omega arith) (omega arith) FAILED _ (c .made-in) (omega arith) (λ z. absurd (omega arith))
         (λ l s h. record { end = refl; stands = keep-stands fit (c .words) free few low i x li lx 1 0 (omega arith) (omega arith) fail refl l s h }))
 
-    keep-match : end < STOPPED → Came given line w (pairPut w′ (placeIn given line i x) (end + 2) list) live made top (result end list top′ made′) keeping-it
+    keep-match : end < STOPPED → Came given line w (pairPut w′ (placeIn given i x) (end + 2) list) live made top (result end list top′ made′) keeping-it
     unfolding keep keptAs
     keep-match e =
         let inside = c .end-in e in
@@ -192,7 +193,7 @@ module _ (given : Given) (line : List ℕ) where
           record { end = refl; inside = inside; stands = keep-stands fit (c .words) free few low i x li lx (end + 2) list (omega arith) below (ok end (treesAt w′ list)) (rw two refl) l s h },
         )))
 
-    module _ {w″ : List ℕ} (kept : Kept (lent [] (given .numbers)) line w′ w″ i x end list) where
+    module _ {w″ : List ℕ} (kept : Kept (lent [] (given .numbers)) w′ w″ i x end list) where
       by-end : (end ≡ STOPPED) ⊎ ((end ≡ FAILED) ⊎ (end < STOPPED)) → Came given line w w″ live made top (result end list top′ made′) keeping-it
       by-end (inl e) = rw (kept .stopped e) (stopped given line (fit .short) (λ l. keep i x) c e)
       by-end (inr (inl e)) = came-failed given line (fit .short) 0 end list e (rw (kept .failed e) (keep-fail e))
@@ -217,7 +218,7 @@ module _ (given : Given) (line : List ℕ) where
     unfolding visited
     visited-plain e c = came-as given line (fit .short) visiting c (λ l s. ap (λ b. working (wayOf b (growsIn given)) l s) e ∙ ap (λ b. visited (grammarIn given) line (wayOf b (growsIn given)) v u l i x s) (sym e))
 
-    recalled : {w : List ℕ} {live made : ℕ} (free : keepsIn given ≡ true) (l : List Note) (s : State) (q : Option Answer) → Stands given line w live made l s → keptAt w (placeIn given line i x) ≡ q
+    recalled : {w : List ℕ} {live made : ℕ} (free : keepsIn given ≡ true) (l : List Note) (s : State) (q : Option Answer) → Stands given line w live made l s → keptAt w (placeIn given i x) ≡ q
         → recall (grammarIn given) line v u l i x s q ≡ visiting l s
     unfolding visited
     recalled free l s q h e =
@@ -225,26 +226,26 @@ module _ (given : Given) (line : List ℕ) where
 
     module _ {w : List ℕ} {live made top : ℕ} (words : Words given line w live top) (free : keepsIn given ≡ true) (le : made ≤ allowanceIn given) where
       -- A failure is kept, or a match is.
-      pub visited-fail : getD w (placeIn given line i x) 0 ≡ 1 → Came given line w w live made top (result FAILED 0 top made) visiting
+      pub visited-fail : getD w (placeIn given i x) 0 ≡ 1 → Came given line w w live made top (result FAILED 0 top made) visiting
       unfolding recall keptAs
       visited-fail e =
           still given line (fit .short) FAILED 0 visiting words le (omega arith) (λ z. absurd (omega arith)) (λ z. omega arith)
           (λ l s h. subst (Says given line w live l (result FAILED 0 top made)) (recalled free l s (some fail) h (rw e refl)) (record { end = refl; stands = h }))
 
-      pub visited-match : (e : ℕ) → getD w (placeIn given line i x) 0 ≡ suc (suc e) → Came given line w w live made top (result e (getD w (placeIn given line i x + 1) 0) top made) visiting
+      pub visited-match : (e : ℕ) → getD w (placeIn given i x) 0 ≡ suc (suc e) → Came given line w w live made top (result e (getD w (placeIn given i x + 1) 0) top made) visiting
       unfolding recall keptAs
       visited-match e q =
-          let le₁ : getD w (placeIn given line i x + 1) 0 ≤ top = words .kept-lists free _ (pair-in given line i x li lx) in
-          let le₂ : getD w (placeIn given line i x) 0 ≤ length line + 2 = words .kept-ends free _ (pair-in given line i x li lx) in
+          let le₁ : getD w (placeIn given i x + 1) 0 ≤ top = words .kept-lists free i x li lx in
+          let le₂ : getD w (placeIn given i x) 0 ≤ length line + 2 = words .kept-ends free i x li lx in
           let inside : e ≤ length line = omega arith in
           let sh = fit .short in
-          still given line (fit .short) e (getD w (placeIn given line i x + 1) 0) visiting words le (omega arith) (λ z. inside) (λ z. le₁)
-          (λ l s h. subst (Says given line w live l (result e (getD w (placeIn given line i x + 1) 0) top made)) (recalled free l s (some (ok e (treesAt w (getD w (placeIn given line i x + 1) 0)))) h (rw q refl))
+          still given line (fit .short) e (getD w (placeIn given i x + 1) 0) visiting words le (omega arith) (λ z. inside) (λ z. le₁)
+          (λ l s h. subst (Says given line w live l (result e (getD w (placeIn given i x + 1) 0) top made)) (recalled free l s (some (ok e (treesAt w (getD w (placeIn given i x + 1) 0)))) h (rw q refl))
           (refl, record { end = refl; inside = inside; stands = h }))
 
       -- The node was applied, and its answer kept.
-      pub applied-kept : getD w (placeIn given line i x) 0 ≡ 0 → {w′ : List ℕ} {end list top′ made′ : ℕ} → Came given line w w′ live made top (result end list top′ made′) (working (wayIn given))
-          → live * 3 ≤ 2041 → top′ ≤ allowanceIn given → {w″ : List ℕ} → Kept (lent [] (given .numbers)) line w′ w″ i x end list → Came given line w w″ live made top (result end list top′ made′) visiting
+      pub applied-kept : getD w (placeIn given i x) 0 ≡ 0 → {w′ : List ℕ} {end list top′ made′ : ℕ} → Came given line w w′ live made top (result end list top′ made′) (working (wayIn given))
+          → live * 3 ≤ 2041 → top′ ≤ allowanceIn given → {w″ : List ℕ} → Kept (lent [] (given .numbers)) w′ w″ i x end list → Came given line w w″ live made top (result end list top′ made′) visiting
       unfolding recall keptAs
       applied-kept none-kept c few low k =
           came-when given line (fit .short) visiting (kept-came fit free i x li lx c few low k)

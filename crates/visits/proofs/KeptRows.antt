@@ -39,11 +39,11 @@ module _ (given : Given) (line : List ℕ) (left i : ℕ) where
 
 module _ (given : Given) (line : List ℕ) (fit : Fit given line) (left i : ℕ) (li : i < nodesIn given) (kind : kindIn given i ≡ 6) (free : keepsIn given ≡ true) {live : ℕ} (few : live * 3 ≤ 2041) where
   -- A visit of a pair for which nothing is kept.
-  opens-new : {w : List ℕ} {made : ℕ} (x : ℕ) → x ≤ length line → getD w (placeIn given line i x) 0 ≡ 0 → (l : List Note) (s : State) → Stands given line w live made l s
+  opens-new : {w : List ℕ} {made : ℕ} (x : ℕ) → x ≤ length line → getD w (placeIn given i x) 0 ≡ 0 → (l : List Note) (s : State) → Stands given line w live made l s
       → after (applies given line left l i x s) (keep i x) ≡ opens given line left l i x s
   unfolding visited recall keptAs
   opens-new {w} x inside new l s h =
-      let e : keptAt w (placeIn given line i x) ≡ none = rw new refl in
+      let e : keptAt w (placeIn given i x) ≡ none = rw new refl in
       ap (λ b. after (apply line (reading given line left l) (reading given line (suc left) l) (useRule (grammarIn given) line (wayOf b (growsIn given)) (reading given line left) l) i x s (node (grammarIn given) i)) (keep i x)) free
       ∙ ap (recall (grammarIn given) line (reading given line left) (reading given line (suc left)) l i x s) (sym e ∙ sym (h .kept free i x li inside))
       ∙ ap (λ b. visited (grammarIn given) line (wayOf b (growsIn given)) (reading given line left) (reading given line (suc left)) l i x s) (sym free)
@@ -136,7 +136,7 @@ module _ (given : Given) (line : List ℕ) (fit : Fit given line) (left i : ℕ)
               (λ l s. ap (λ us. after (opens given line left l i (a .end) s) (joined us)) trees-lowered))))
 
         -- Nothing is kept for it: the turn waits, and the loop goes on.
-        module _ (new : getD counted (placeIn given line i (a .end)) 0 ≡ 0) (fewer : a .top + made < top + a .made) where
+        module _ (new : getD counted (placeIn given i (a .end)) 0 ≡ 0) (fewer : a .top + made < top + a .made) where
           abbrev put : List ℕ
           put = withTurn given counted (n + 1) x (a .list)
 
@@ -150,8 +150,8 @@ module _ (given : Given) (line : List ℕ) (fit : Fit given line) (left i : ℕ)
           low-turns : turnsIn (lowered counted b) < n + 1
           low-turns = let z = counted-words .room in let e : turnsIn (lowered counted b) ≡ b = getD-set-same counted 2041 b 0 (omega arith) in let l = least in omega arith
 
-          new-lowered : getD (lowered counted b) (placeIn given line i (a .end)) 0 ≡ 0
-          new-lowered = getD-set-other counted 2041 (placeIn given line i (a .end)) b 0 (omega arith) ∙ new
+          new-lowered : getD (lowered counted b) (placeIn given i (a .end)) 0 ≡ 0
+          new-lowered = getD-set-other counted 2041 (placeIn given i (a .end)) b 0 (omega arith) ∙ new
 
           -- What is done after the own next visit: the child's trees are joined to its own, and the turns before are gone back over.
           abbrev then-back : Answer → State → Run

@@ -165,8 +165,8 @@ module _ (given : Given) (line : List ℕ) (spot i : ℕ) (w₀ : List ℕ) (rea
           low₂ : topIn counted + turnsIn counted < allowanceIn given
           low₂ = omega (arith, cells-now, ready .top-in, top₂, still-turns)
 
-          pub look-room : Roomy (lent [] (given .numbers)) line counted i (endIn a)
-          look-room = roomy given line counted i (endIn a) (ready .fit) (words₂ .room) (ready .node-in) inside
+          pub look-room : Roomy (lent [] (given .numbers)) counted i (endIn a)
+          look-room = roomy given line counted i (endIn a) (ready .fit) free (words₂ .room) (ready .node-in) inside
 
           starts₂ : Starts given line counted spot i (endIn a)
           starts₂ = record {
@@ -181,17 +181,17 @@ module _ (given : Given) (line : List ℕ) (spot i : ℕ) (w₀ : List ℕ) (rea
           }
 
           -- An answer is kept for it, as `rest`: the row ends there.
-          module _ (word : ℕ) (is : word ≡ getD counted (placeIn given line i (endIn a)) 0) (some : word ≢ 0) (rest : ℕ) (kept : KeptAnswer (lent [] (given .numbers)) line counted i (endIn a) word rest) where
+          module _ (word : ℕ) (is : word ≡ getD counted (placeIn given i (endIn a)) 0) (some : word ≢ 0) (rest : ℕ) (kept : KeptAnswer (lent [] (given .numbers)) counted i (endIn a) word rest) where
             found : Ends given line counted counted spot rest (λ l s. opens given line (leftIn spot) l i (endIn a) s)
             found = kept-answered given line counted spot i (endIn a) starts₂ space free counted refl rest word is some kept
 
             pair-end : endIn rest ≢ STOPPED
             pair-end = by-same word 1 (λ one. let e = kept .failed one .0 in λ z. absurd (omega arith))
-                (λ other. let e = kept .matched (omega arith) .0 in let b = words₂ .kept-ends free _ (pair-in given line i (endIn a) (ready .node-in) inside) in let s = ready .fit .short in λ z. absurd (omega arith))
+                (λ other. let e = kept .matched (omega arith) .0 in let b = words₂ .kept-ends free i (endIn a) (ready .node-in) inside in let s = ready .fit .short in λ z. absurd (omega arith))
 
             pair-list : listIn rest ≤ topIn counted
             pair-list = by-same word 1 (λ one. omega (arith, kept .failed one .1))
-                (λ other. omega (arith, top₂, kept .matched (omega arith) .1, words₂ .kept-lists free _ (pair-in given line i (endIn a) (ready .node-in) inside)))
+                (λ other. omega (arith, top₂, kept .matched (omega arith) .1, words₂ .kept-lists free i (endIn a) (ready .node-in) inside))
 
             pub join-ready : (left right : ℕ) → left ≡ listIn a → right ≡ listIn rest
                 → (Arena counted (topIn counted) × ((left ≤ topIn counted) × (right ≤ topIn counted))) × ((2048 + 4 * topIn counted + 3 < length counted) × (topIn counted < 1073741823))
@@ -240,7 +240,7 @@ module _ (given : Given) (line : List ℕ) (spot i : ℕ) (w₀ : List ℕ) (rea
               found-ends q back = returns both there m found-came words₃ turns₃ cells₃ (omega (arith, made₃)) waits₃ q back
 
           -- Nothing is kept for it: the turn waits, and the loop goes on.
-          module _ (new : getD counted (placeIn given line i (endIn a)) 0 ≡ 0) where
+          module _ (new : getD counted (placeIn given i (endIn a)) 0 ≡ 0) where
             pub has-turn : HasTurn (lent [] (given .numbers)) counted (n + 1)
             has-turn = record { allowance = ready .fit .allowance; some = omega arith; within = omega (arith, low₂, still-turns); room = omega (arith, words₂ .room) }
 

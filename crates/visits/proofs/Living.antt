@@ -17,7 +17,7 @@ use Rattle.meaning.proofs.Sets.{sets-apart, sets-at}
 use Rattle.cells.specs.Cells.{treesAt}
 use Rattle.cells.proofs.Frame.{arena-same}
 use Rattle.visits.specs.Given.{Given, baseIn, allowanceIn, grammarIn, Fit}
-use Rattle.visits.specs.Words.{keyOf, HeldAs, Entry, Lives, useAt, InOrder, Stands, Words, Same}
+use Rattle.visits.specs.Words.{keyOf, HeldAs, Entry, Lives, placeIn, useAt, InOrder, Stands, Words, Same}
 use Rattle.visits.specs.Says.{Visited, FAILED, Says, Came}
 use Rattle.visits.proofs.Frame.{same-then, same-trees, stands-same}
 use Rattle.visits.proofs.Steps.{still}
@@ -185,8 +185,8 @@ module _ (given : Given) (line : List ℕ) (fit : Fit given line) where
       arena = arena-same w entered top (live-same .cells) long (words .arena);
       held-lists = lists-now;
       held-ends = ends-now;
-      kept-lists = λ f j lt. omega (arith, live-kept (baseIn given + j * 2 + 1) (omega arith), words .kept-lists f j lt);
-      kept-ends = λ f j lt. omega (arith, live-kept (baseIn given + j * 2) (omega arith), words .kept-ends f j lt);
+      kept-lists = λ f j y lj ly. omega (arith, live-kept (placeIn given j y + 1) (omega arith), words .kept-lists f j y lj ly);
+      kept-ends = λ f j y lj ly. omega (arith, live-kept (placeIn given j y) (omega arith), words .kept-ends f j y lj ly);
     }
 
     module _ (small : a < 64) (q : Answer) (held : HeldAs end list (treesAt w list) a x q) {made : ℕ} {l : List Note} {s : State} (fresh : look l a x ≡ none) (h : Stands given line w live made l s) where

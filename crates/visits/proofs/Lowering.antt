@@ -8,7 +8,7 @@ use lib.ListN.{length, getD, set, length-set}
 use lib.Seq.{getD-set-same, getD-set-other, set-set, set-getD}
 use Rattle.meaning.specs.Grammar.{fail, ok, Note}
 use Rattle.meaning.specs.Reading.{State, Run, effort, deep, done}
-use Rattle.visits.specs.Given.{Given, allowanceIn, Fit}
+use Rattle.visits.specs.Given.{Given, longestLine, allowanceIn, Fit}
 use Rattle.visits.specs.Words.{turnsIn, topIn, madeIn, Stands, Words, Same}
 use Rattle.visits.specs.Says.{Visited, Says, Came}
 use Rattle.visits.proofs.Frame.{alike-trees, alike-stands, written-kept, written-alike, written-words}
@@ -35,7 +35,7 @@ module _ (given : Given) (line : List ℕ) (n : ℕ) {live : ℕ} (few : live * 
   pub low-words : {w : List ℕ} {top : ℕ} → Words given line w live top → Words given line (lowered w n) live top
   low-words {w} words = written-words given line 2041 (omega arith) (omega arith) w n few words
 
-  low-says : {w : List ℕ} (l : List Note) (r : Visited) (m : Run) → Words given line w live (r .top) → (r .end < 65534 → r .list ≤ r .top) → (r .end < 65534 → r .end ≤ length line) → length line ≤ 255
+  low-says : {w : List ℕ} (l : List Note) (r : Visited) (m : Run) → Words given line w live (r .top) → (r .end < 65534 → r .list ≤ r .top) → (r .end < 65534 → r .end ≤ length line) → length line ≤ longestLine
       → Says given line w live l r m → Says given line (lowered w n) live l r m
   low-says {w} l r (effort p s) words le inside short h =
       record { end = h .end; list = h .list; small = h .small; left = h .left; furthest = h .furthest ∙ sym (getD-set-other w 2041 2044 n 0 (omega arith)) }

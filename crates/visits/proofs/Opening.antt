@@ -19,16 +19,18 @@ use Rattle.visits.proofs.Keeping.{by-same, kept-others, visited-plain, 
 use Rattle.visits.proofs.Depth.{left-less, pos-less, space-open, starts-open, came-open, cells-open}
 
 -- There is room for what is kept.
-pub roomy : (given : Given) (line w : List ℕ) (i x : ℕ) → Fit given line → roomIn given line ≤ length w → i < nodesIn given → x ≤ length line → Roomy (lent [] (given .numbers)) line w i x
-roomy given line w i x fit room li lx =
-    let z = pair-in given line i x li lx in
+pub roomy : (given : Given) (line w : List ℕ) (i x : ℕ) → Fit given line → keepsIn given ≡ true → roomIn given line ≤ length w → i < nodesIn given → x ≤ length line → Roomy (lent [] (given .numbers)) w i x
+roomy given line w i x fit free room li lx =
+    let z = pair-in given line fit free i x li lx in
     let n = well-laid (given .table) (fit .laid) .few-nodes in
-    record { short = fit .short; allowance = fit .allowance; node-in = omega arith; pos-in = lx; room = omega arith }
+    let e = fit .each free in
+    let l = fit .short in
+    record { each = omega arith; allowance = fit .allowance; node-in = omega arith; pos-in = omega arith; room = omega arith }
 
 -- A visit that is counted and open, from the words w, where answers are kept.
 module _ (given : Given) (line w : List ℕ) (spot node pos : ℕ) (ready : Starts given line w spot node pos) (room : liveIn spot + leftIn spot ≤ 512) (free : keepsIn given ≡ true) (w₁ : List ℕ) (is : w₁ ≡ w) (r : ℕ) where
   abbrev word : ℕ
-  word = getD w (placeIn given line node pos) 0
+  word = getD w (placeIn given node pos) 0
 
   few : liveIn spot * 3 ≤ 2041
   few = omega arith
@@ -40,24 +42,24 @@ module _ (given : Given) (line w : List ℕ) (spot node pos : ℕ) (ready : Star
   kept-failure : word ≡ 1 → endIn r ≡ FAILED → listIn r ≡ 0 → Ends given line w w₁ spot r (λ l s. opens given line (leftIn spot) l node pos s)
   kept-failure k e f = still-open FAILED 0 e f (visited-fail given line (ready .fit) (reading given line (leftIn spot)) (reading given line (suc (leftIn spot))) node pos (ready .node-in) (ready .pos-in) (ready .words) free (ready .made-in) k)
 
-  kept-match : 1 < word → endIn r ≡ word - 2 → listIn r ≡ getD w (placeIn given line node pos + 1) 0 → Ends given line w w₁ spot r (λ l s. opens given line (leftIn spot) l node pos s)
+  kept-match : 1 < word → endIn r ≡ word - 2 → listIn r ≡ getD w (placeIn given node pos + 1) 0 → Ends given line w w₁ spot r (λ l s. opens given line (leftIn spot) l node pos s)
   kept-match k e f = still-open _ _ e f (visited-match given line (ready .fit) (reading given line (leftIn spot)) (reading given line (suc (leftIn spot))) node pos (ready .node-in) (ready .pos-in) (ready .words) free (ready .made-in) (word - 2) (omega arith))
 
-  pub kept-answered : (n : ℕ) → n ≡ word → n ≢ 0 → KeptAnswer (lent [] (given .numbers)) line w node pos n r → Ends given line w w₁ spot r (λ l s. opens given line (leftIn spot) l node pos s)
+  pub kept-answered : (n : ℕ) → n ≡ word → n ≢ 0 → KeptAnswer (lent [] (given .numbers)) w node pos n r → Ends given line w w₁ spot r (λ l s. opens given line (leftIn spot) l node pos s)
   kept-answered n e some k = by-same n 1 (λ one. kept-failure (sym e ∙ one) (k .failed one .0) (k .failed one .1))
       (λ other. let more : 1 < n = omega arith in kept-match (omega arith) (k .matched more .0 ∙ ap (λ m. m - 2) e) (k .matched more .1))
 
   -- The node is applied, and its answer kept.
   module _ (none : word ≡ 0) (w₂ w₃ : List ℕ) (applied : Ends given line w₁ w₂ spot r (λ l s. applies given line (leftIn spot) l node pos s))
-      (k : Kept (lent [] (given .numbers)) line w₂ w₃ node pos (endIn r) (listIn r)) where
+      (k : Kept (lent [] (given .numbers)) w₂ w₃ node pos (endIn r) (listIn r)) where
     e : Ends given line w w₂ spot r (λ l s. applies given line (leftIn spot) l node pos s)
     e = rw is at applied
 
     top-kept : topIn w₃ ≡ topIn w₂
-    top-kept = kept-others (lent [] (given .numbers)) line w₂ w₃ node pos (endIn r) (listIn r) 2042 k (e .came .end-most) (omega arith)
+    top-kept = kept-others (lent [] (given .numbers)) w₂ w₃ node pos (endIn r) (listIn r) 2042 k (e .came .end-most) (omega arith)
 
     made-kept : madeIn w₃ ≡ madeIn w₂
-    made-kept = kept-others (lent [] (given .numbers)) line w₂ w₃ node pos (endIn r) (listIn r) 2043 k (e .came .end-most) (omega arith)
+    made-kept = kept-others (lent [] (given .numbers)) w₂ w₃ node pos (endIn r) (listIn r) 2043 k (e .came .end-most) (omega arith)
 
     pub open-applied : Ends given line w w₃ spot r (λ l s. opens given line (leftIn spot) l node pos s)
     open-applied =
@@ -150,6 +152,6 @@ entered-open given line w spot node ready {code = code} (inr (inl h)) z = let is
 entered-open given line w spot node ready (inr (inr h)) z = counts given line w spot node ready (h .0) (h .1) (h .3)
 
 -- The word of a pair is read, from the words w, which stay.
-pub record Looked (given : Given) (line w w₁ : List ℕ) (spot node word : ℕ) : Type 0 where
+pub record Looked (given : Given) (w w₁ : List ℕ) (spot node word : ℕ) : Type 0 where
   pub same : w₁ ≡ w
-  pub is : word ≡ getD w (placeIn given line node (posIn spot)) 0
+  pub is : word ≡ getD w (placeIn given node (posIn spot)) 0

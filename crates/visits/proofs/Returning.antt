@@ -30,11 +30,11 @@ module _ (b : ℕ) where
   lowered-put : (w : List ℕ) (p x y : ℕ) → 2048 ≤ p → lowered (pairPut w p x y) b ≡ pairPut (lowered w b) p x y
   lowered-put w p x y h = set-comm (set w p x) (suc p) 2041 y b (omega arith) ∙ ap (λ u. set u (suc p) y) (set-comm w p 2041 x b (omega arith))
 
-  lowered-kept : {given : Given} {line old new : List ℕ} {i x end list : ℕ} → Kept given line old new i x end list → Kept given line (lowered old b) (lowered new b) i x end list
-  lowered-kept {given} {line} {old} {new} {i} {x} {end} {list} k = record {
+  lowered-kept : {given : Given} {old new : List ℕ} {i x end list : ℕ} → Kept given old new i x end list → Kept given (lowered old b) (lowered new b) i x end list
+  lowered-kept {given} {old} {new} {i} {x} {end} {list} k = record {
     stopped = λ e. ap (λ u. lowered u b) (k .stopped e);
-    failed = λ e. ap (λ u. lowered u b) (k .failed e) ∙ lowered-put old (placeIn given line i x) 1 0 (omega arith);
-    matched = λ e. ap (λ u. lowered u b) (k .matched e) ∙ lowered-put old (placeIn given line i x) (end + 2) list (omega arith);
+    failed = λ e. ap (λ u. lowered u b) (k .failed e) ∙ lowered-put old (placeIn given i x) 1 0 (omega arith);
+    matched = λ e. ap (λ u. lowered u b) (k .matched e) ∙ lowered-put old (placeIn given i x) (end + 2) list (omega arith);
   }
 
   lowered-added : {old new : List ℕ} {top list top′ : ℕ} {ts : Trees} → Added old new top list top′ ts → Added (lowered old b) (lowered new b) top list top′ ts
@@ -107,22 +107,22 @@ module _ (given : Given) (line : List ℕ) (spot i before : ℕ) where
       least : before ≤ n
       least = waiting-least given line w (topIn w) before n (go .left (start .turns) (start .waiting) .turns) waits
 
-      pub keep-ready : {end : ℕ} → end ≡ endIn r → Roomy (lent [] (given .numbers)) line w i at × (end ≤ FAILED)
-      keep-ready {end} e = (roomy given line w i at (start .fit) long (start .node-in) (go .at-in), omega (arith, e, go .end, start .end-most))
+      pub keep-ready : {end : ℕ} → end ≡ endIn r → Roomy (lent [] (given .numbers)) w i at × (end ≤ FAILED)
+      keep-ready {end} e = (roomy given line w i at (start .fit) (start .free) long (start .node-in) (go .at-in), omega (arith, e, go .end, start .end-most))
 
       pub nearer : n ≢ before → n - 1 < n
       nearer more = omega (arith, least)
 
       -- The answer is kept, which leaves the words w₁.
-      module _ (more : n ≢ before) {end list : ℕ} (ends : end ≡ endIn r) (lists : list ≡ listIn r) {w₁ : List ℕ} (k : Kept (lent [] (given .numbers)) line w w₁ i at end list) where
-        kept : Kept (lent [] (given .numbers)) line w w₁ i at (endIn r) (listIn r)
+      module _ (more : n ≢ before) {end list : ℕ} (ends : end ≡ endIn r) (lists : list ≡ listIn r) {w₁ : List ℕ} (k : Kept (lent [] (given .numbers)) w w₁ i at end list) where
+        kept : Kept (lent [] (given .numbers)) w w₁ i at (endIn r) (listIn r)
         kept = rw (ends, lists) at k
 
         most : endIn r ≤ FAILED
         most = omega (arith, go .end, start .end-most)
 
         as-kept : (j : ℕ) → j < baseIn given → getD w₁ j 0 ≡ getD w j 0
-        as-kept j h = kept-others (lent [] (given .numbers)) line w w₁ i at (endIn r) (listIn r) j kept most h
+        as-kept j h = kept-others (lent [] (given .numbers)) w w₁ i at (endIn r) (listIn r) j kept most h
 
         top-kept : topIn w₁ ≡ topIn w
         top-kept = as-kept 2042 (omega arith)

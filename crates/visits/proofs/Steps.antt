@@ -8,12 +8,12 @@ use lib.ListN.{length}
 use Rattle.meaning.specs.Grammar.{Trees, Answer, fail, ok, Note}
 use Rattle.meaning.specs.Reading.{State, Run, effort, deep, done, after}
 use Rattle.cells.specs.Cells.{treesAt}
-use Rattle.visits.specs.Given.{Given, allowanceIn, Fit}
+use Rattle.visits.specs.Given.{Given, longestLine, allowanceIn, Fit}
 use Rattle.visits.specs.Words.{turnsIn, Added, Stands, Words, Same}
 use Rattle.visits.specs.Says.{Visited, FAILED, STOPPED, Says, Came}
 use Rattle.visits.proofs.Frame.{same-none, same-then, made-same, made-words, made-stands}
 
-module _ (given : Given) (line : List ℕ) (short : length line ≤ 255) where
+module _ (given : Given) (line : List ℕ) (short : length line ≤ longestLine) where
   module _ (w : List ℕ) (live : ℕ) (l : List Note) (a : Visited) (k : Answer → State → Run) where
     -- The step matched: what follows a match follows.
     pub says-match : (w′ : List ℕ) (r : Visited) (m : Run) → Says given line w live l a m → a .end < STOPPED

@@ -11,7 +11,7 @@ use Rattle.meaning.specs.Reading.{State, Run, effort, deep, done, after, joined
 use Rattle.cells.specs.Cells.{treesAt}
 use Rattle.cells.proofs.Frame.{SameCells, trees-same, arena-same}
 use Rattle.visits.specs.Given.{Given, baseIn, allowanceIn}
-use Rattle.visits.specs.Words.{turnsIn, turnAt, turnPos, turnList, Turn, IsTurn, Waiting, withTurn, Stands, Words, Same}
+use Rattle.visits.specs.Words.{turnsIn, placeIn, turnAt, turnPos, turnList, Turn, IsTurn, Waiting, withTurn, Stands, Words, Same}
 use Rattle.visits.specs.Says.{goingBack}
 use Rattle.visits.proofs.Frame.{alike-stands}
 use Rattle.visits.proofs.Lowering.{lowered}
@@ -81,8 +81,8 @@ module _ (given : Given) (line : List ℕ) where
       arena = arena-same w turned top turned-cells turned-long (words .arena);
       held-lists = λ j lt. omega (arith, turned-other (j * 3 + 2) (omega arith) (omega arith), words .held-lists j lt);
       held-ends = λ j lt. omega (arith, turned-other (j * 3 + 1) (omega arith) (omega arith), words .held-ends j lt);
-      kept-lists = λ free j lt. omega (arith, turned-other (baseIn given + j * 2 + 1) (omega arith) (omega arith), words .kept-lists free j lt);
-      kept-ends = λ free j lt. omega (arith, turned-other (baseIn given + j * 2) (omega arith) (omega arith), words .kept-ends free j lt);
+      kept-lists = λ free j y lj ly. omega (arith, turned-other (placeIn given j y + 1) (omega arith) (omega arith), words .kept-lists free j y lj ly);
+      kept-ends = λ free j y lj ly. omega (arith, turned-other (placeIn given j y) (omega arith) (omega arith), words .kept-ends free j y lj ly);
     }
 
     pub turned-stands : {made : ℕ} {l : List Note} {s : State} → Stands given line w live made l s → Stands given line turned live made l s

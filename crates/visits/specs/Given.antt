@@ -1,9 +1,9 @@
--- What a reading is given: the table of the sheet, and four numbers, the allowance, whether answers are kept, where the nodes start in the table, and the rules
--- whose uses become live where answers aren't kept.
+-- What a reading is given: the table of the sheet, and four numbers, the allowance, how many answers are kept for each position, where the nodes start in the table, and
+-- the rules whose uses become live where answers aren't kept.
 use Prim.Native.Nat.{ℕ, _+_, _*_, _/_, _%_, _<_, _≤_}
 use mathlib.Core.Path.{_≡_}
 use mathlib.Core.Logic.{_⊎_}
-use mathlib.Core.Bool.{Bool}
+use mathlib.Core.Bool.{Bool, true}
 use mathlib.Core.List.{List}
 use lib.ListN.{length, getD}
 use lib.Dec.{ltb}
@@ -12,6 +12,7 @@ use Rattle.meaning.specs.Grammar.{Grammar}
 use Rattle.meaning.specs.Reading.{Way, wayOf}
 use Rattle.layout.specs.Table.{nodesOf, rulesOf, rootOf, nodeAt, kindOf, aOf, bOf, grammarOf}
 use Rattle.layout.specs.Layout.{Laid}
+pub use Rattle.stored.specs.Version.{longestLine}
 
 pub record Given : Type 0 where
   pub table : List ℕ
@@ -46,16 +47,16 @@ grammarIn given = grammarOf (given .table)
 abbrev pub allowanceIn : Given → ℕ
 allowanceIn given = getD (given .numbers) 0 0
 
--- 01: "line over 255 bytes"; "allowance 0 or over 1,000,000".
-abbrev pub longestLine : ℕ
-longestLine = 255
-
+-- 02, W-212: "the allowance up to 5,000,000".
 abbrev pub mostAllowance : ℕ
-mostAllowance = 1000000
+mostAllowance = 5000000
 
--- 1 where answers are kept, else 0.
+-- How many answers are kept for each position: one for each node, or none.
+abbrev pub keptEachIn : Given → ℕ
+keptEachIn given = getD (given .numbers) 1 0
+
 abbrev pub keepsIn : Given → Bool
-keepsIn given = ltb 0 (getD (given .numbers) 1 0)
+keepsIn given = ltb 0 (keptEachIn given)
 
 -- Where the nodes start in the table.
 abbrev pub firstIn : Given → ℕ
@@ -88,6 +89,7 @@ roomIn given line = workNeeded (allowanceIn given) (nodesIn given) (length line)
 pub record Fit (given : Given) (line : List ℕ) : Type 0 where
   pub laid : Laid (given .table)
   pub first : firstIn given ≡ nodeAt (rulesIn given) 0
+  pub each : keepsIn given ≡ true → keptEachIn given ≡ nodesIn given
   pub short : length line ≤ longestLine
   pub allowance : allowanceIn given ≤ mostAllowance
 

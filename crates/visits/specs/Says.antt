@@ -70,9 +70,9 @@ pub record Holds (w : List ℕ) (i r : ℕ) : Type 0 where
   pub matched : getD w (i * 3 + 2) 0 ≢ 0 → (endIn r ≡ getD w (i * 3 + 1) 0) × (listIn r ≡ getD w (i * 3 + 2) 0)
 
 -- The answer that is kept for a pair, by its word.
-pub record KeptAnswer (given : Given) (line w : List ℕ) (i x word r : ℕ) : Type 0 where
+pub record KeptAnswer (given : Given) (w : List ℕ) (i x word r : ℕ) : Type 0 where
   pub failed : word ≡ 1 → (endIn r ≡ FAILED) × (listIn r ≡ 0)
-  pub matched : 1 < word → (endIn r ≡ word - 2) × (listIn r ≡ getD w (placeIn given line i x + 1) 0)
+  pub matched : 1 < word → (endIn r ≡ word - 2) × (listIn r ≡ getD w (placeIn given i x + 1) 0)
 
 -- The answer with what the words say after it: the cells in use, the visits made.
 pub record Visited : Type 0 where
@@ -167,8 +167,8 @@ abbrev pub DoesVisit : (given : Given) (line old new : List ℕ) (spot r : ℕ) 
 DoesVisit given line old new spot r m = EndsVisit given line old new spot r (m given line spot)
 
 -- A node that is applied here is no rule's but where answers are kept, and then none is kept for it.
-abbrev pub Unkept : (given : Given) (line w : List ℕ) (spot node : ℕ) → Type 0
-Unkept given line w spot node = (kindIn given node ≡ 2 → keepsIn given ≡ true) × (keepsIn given ≡ true → getD w (placeIn given line node (posIn spot)) 0 ≡ 0)
+abbrev pub Unkept : (given : Given) (w : List ℕ) (spot node : ℕ) → Type 0
+Unkept given w spot node = (kindIn given node ≡ 2 → keepsIn given ≡ true) × (keepsIn given ≡ true → getD w (placeIn given node (posIn spot)) 0 ≡ 0)
 
 -- From the answer of node i at x back over the turns that wait, the newest first: the answer is kept, and the turn's trees are joined before those of the one after it.
 unfoldable pub goingBack : ℕ → List Turn → ℕ → Answer → State → Run

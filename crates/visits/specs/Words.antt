@@ -13,7 +13,7 @@ use Rattle.meaning.specs.Grammar.{Trees, no-trees, tree, Answer, fail, ok, Note
 use Rattle.meaning.specs.Reading.{State, EFFORT, DEEP}
 use Rattle.cells.specs.Cells.{recordsFrom, treesAt}
 use Rattle.cells.specs.Arena.{Arena}
-use Rattle.visits.specs.Given.{Given, longestLine, mostAllowance, nodesIn, keepsIn, growsIn, baseIn, allowanceIn, pairsIn, roomIn, leftIn, liveIn, posIn}
+use Rattle.visits.specs.Given.{Given, longestLine, mostAllowance, nodesIn, keptEachIn, keepsIn, growsIn, baseIn, allowanceIn, roomIn, leftIn, liveIn, posIn}
 
 -- The ends that are no position.
 abbrev pub FAILED : ℕ
@@ -109,9 +109,9 @@ pub record HasTurn (given : Given) (w : List ℕ) (n : ℕ) : Type 0 where
   pub within : n ≤ allowanceIn given
   pub room : baseIn given ≤ length w
 
--- Where the answer of a pair is kept.
-abbrev pub placeIn : Given → List ℕ → ℕ → ℕ → ℕ
-placeIn given line i x = baseIn given + (i * (length line + 1) + x) * 2
+-- Where the answer of a pair is kept: those of one position lie together.
+abbrev pub placeIn : Given → ℕ → ℕ → ℕ
+placeIn given i x = baseIn given + (x * keptEachIn given + i) * 2
 
 -- A kept answer by its words: 0 none, 1 a failure, e + 2 a match that ends at e; and the list of its trees.
 unfoldable pub keptAs : ℕ → Trees → Option Answer
@@ -127,7 +127,7 @@ pub record Stands (given : Given) (line w : List ℕ) (live made : ℕ) (l : Lis
   pub lives : Lives w live l
   pub left : s .left + made ≡ allowanceIn given
   pub furthest : s .furthest ≡ furthestIn w
-  pub kept : keepsIn given ≡ true → (i x : ℕ) → i < nodesIn given → x ≤ length line → look (s .kept) i x ≡ keptAt w (placeIn given line i x)
+  pub kept : keepsIn given ≡ true → (i x : ℕ) → i < nodesIn given → x ≤ length line → look (s .kept) i x ≡ keptAt w (placeIn given i x)
 
 -- The words are in order: there is room, lists lie below top, ends lie inside the line.
 pub record Words (given : Given) (line w : List ℕ) (live top : ℕ) : Type 0 where
@@ -135,8 +135,8 @@ pub record Words (given : Given) (line w : List ℕ) (live top : ℕ) : Type 0 w
   pub arena : Arena w top
   pub held-lists : (i : ℕ) → i < live → getD w (i * 3 + 2) 0 ≤ top
   pub held-ends : (i : ℕ) → i < live → getD w (i * 3 + 1) 0 ≤ length line
-  pub kept-lists : keepsIn given ≡ true → (j : ℕ) → j < pairsIn given line → getD w (baseIn given + j * 2 + 1) 0 ≤ top
-  pub kept-ends : keepsIn given ≡ true → (j : ℕ) → j < pairsIn given line → getD w (baseIn given + j * 2) 0 ≤ length line + 2
+  pub kept-lists : keepsIn given ≡ true → (i x : ℕ) → i < nodesIn given → x ≤ length line → getD w (placeIn given i x + 1) 0 ≤ top
+  pub kept-ends : keepsIn given ≡ true → (i x : ℕ) → i < nodesIn given → x ≤ length line → getD w (placeIn given i x) 0 ≤ length line + 2
 
 -- The words that a visit leaves as they are: those of the live uses, of the cells below top, of the turns that wait with their number, and all past the room.
 pub record Same (given : Given) (line old new : List ℕ) (live top : ℕ) : Type 0 where
@@ -213,19 +213,19 @@ EnteredInPlace given old new code =
     ⊎ ((madeIn old < allowanceIn given) × (code ≡ 0) × (new ≡ set old madeWord (madeIn old + 1)))
 
 -- Node i and position x are a pair for which an answer may be kept.
-abbrev pub HasPair : Given → List ℕ → (i x : ℕ) → Type 0
-HasPair given line i x = (length line ≤ longestLine) × ((allowanceIn given ≤ mostAllowance) × ((i < 512) × (x ≤ length line)))
+abbrev pub HasPair : Given → (i x : ℕ) → Type 0
+HasPair given i x = (keptEachIn given ≤ 512) × ((allowanceIn given ≤ mostAllowance) × ((i < 512) × (x ≤ longestLine)))
 
 -- There is room for the kept answer of a pair, and its place is a small number.
-pub record Roomy (given : Given) (line w : List ℕ) (i x : ℕ) : Type 0 where
-  pub short : length line ≤ longestLine
+pub record Roomy (given : Given) (w : List ℕ) (i x : ℕ) : Type 0 where
+  pub each : keptEachIn given ≤ 512
   pub allowance : allowanceIn given ≤ mostAllowance
   pub node-in : i < 512
-  pub pos-in : x ≤ length line
-  pub room : placeIn given line i x + 1 < length w
+  pub pos-in : x ≤ longestLine
+  pub room : placeIn given i x + 1 < length w
 
 -- What is kept once a pair is finished: a failure, or the end and the list of a match.
-pub record Kept (given : Given) (line old new : List ℕ) (i x end list : ℕ) : Type 0 where
+pub record Kept (given : Given) (old new : List ℕ) (i x end list : ℕ) : Type 0 where
   pub stopped : end ≡ STOPPED → new ≡ old
-  pub failed : end ≡ FAILED → new ≡ sets old (placeIn given line i x) (1 ∷ 0 ∷ [])
-  pub matched : end < STOPPED → new ≡ sets old (placeIn given line i x) ((end + 2) ∷ list ∷ [])
+  pub failed : end ≡ FAILED → new ≡ sets old (placeIn given i x) (1 ∷ 0 ∷ [])
+  pub matched : end < STOPPED → new ≡ sets old (placeIn given i x) ((end + 2) ∷ list ∷ [])

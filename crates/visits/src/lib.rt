@@ -65,10 +65,10 @@ const DEEP: u32 = 12;
 // A refusal is one number: its code times this, and its place.
 pub const PLACES: u32 = 4096;
 
-// Which of the numbers given is which.
+// Which of the numbers given is which: the allowance, how many answers are kept for each position, where the nodes start, the rules that grow.
 const ALLOWANCE: usize = 0;
 
-const KEEPS: usize = 1;
+const KEPT_EACH: usize = 1;
 
 const FIRST_NODE: usize = 2;
 
@@ -331,9 +331,9 @@ fn keep_row(
             set_turns(*work, before);
             break answer(STOPPED, refused * PLACES + end);
         }
-        let word = kept_word(given, *line, work, node, end);
+        let word = kept_word(given, work, node, end);
         if word != 0 {
-            let rest = kept_answer(given, *line, work, node, end, word);
+            let rest = kept_answer(given, work, node, end, word);
             let both = joined(*work, end_of(rest), list_of(a), list_of(rest));
             break go_back(given, table, line, work, here, node, before, both);
         }
@@ -358,7 +358,7 @@ fn visit_repetition(
     ensures says { λ r. ⌜ Does (lent (now (now (table .entry))) (now (given .entry))) (now (now (line .entry))) (now (now (work .entry))) (now (now (work .exit))) spot r (here applies node) ⌝ }
     ensures lent { λ _. ⌜ (now (work .exit)) .name ≡ (now (work .entry)) .name ⌝ }
 {
-    if given[KEEPS] == 0 {
+    if given[KEPT_EACH] == 0 {
         return visit_row(given, table, line, work, spot, node);
     }
     keep_row(given, table, line, work, spot, node)
@@ -513,7 +513,7 @@ fn apply(
 ) -> u64
     requires ready { ⌜ StartsHere (lent (now (now table)) (now given)) (now (now line)) (now (now work)) spot node ⌝ }
     requires open { ⌜ IsOpen spot ⌝ }
-    requires kept { ⌜ Unkept (lent (now (now table)) (now given)) (now (now line)) (now (now work)) spot node ⌝ }
+    requires kept { ⌜ Unkept (lent (now (now table)) (now given)) (now (now work)) spot node ⌝ }
     ensures says { λ r. ⌜ Does (lent (now (now (table .entry))) (now (given .entry))) (now (now (line .entry))) (now (now (work .entry))) (now (now (work .exit))) spot r (here opens node) ⌝ }
     ensures lent { λ _. ⌜ (now (work .exit)) .name ≡ (now (work .entry)) .name ⌝ }
 {
@@ -527,12 +527,11 @@ fn apply(
         6 => visit_repetition(given, table, line, work, spot, node),
         _ => answer(pos_of(spot), 0),
     };
-    if given[KEEPS] == 0 {
+    if given[KEPT_EACH] == 0 {
         return done;
     }
     keep(
         given,
-        *line,
         *work,
         node,
         pos_of(spot),
@@ -582,17 +581,17 @@ fn visit(
     if refused != 0 {
         return answer(STOPPED, refused * PLACES + pos_of(spot));
     }
-    if given[KEEPS] == 0 {
+    if given[KEPT_EACH] == 0 {
         return visit_open(given, table, line, work, spot - OPEN, node);
     }
     let pos = pos_of(spot);
-    let word = kept_word(given, *line, work, node, pos);
+    let word = kept_word(given, work, node, pos);
     if word != 0 {
-        return kept_answer(given, *line, work, node, pos, word);
+        return kept_answer(given, work, node, pos, word);
     }
     if kind_of(given, *table, node) == 1 {
         let done = visit_range(given, *table, *line, work, pos, node);
-        keep(given, *line, *work, node, pos, end_of(done), list_of(done));
+        keep(given, *work, node, pos, end_of(done), list_of(done));
         return done;
     }
     apply(given, table, line, work, spot - OPEN, node)
@@ -605,7 +604,7 @@ fn first_use(given: &[u64; 4], table: &&[u8], line: &&[u8], work: &mut &mut [u32
     ensures says { λ r. ⌜ Does (lent (now (now (table .entry))) (now (given .entry))) (now (now (line .entry))) (now (now (work .entry))) (now (now (work .exit))) beginning r (here uses 0) ⌝ }
     ensures lent { λ _. ⌜ (now (work .exit)) .name ≡ (now (work .entry)) .name ⌝ }
 {
-    if given[KEEPS] != 0 {
+    if given[KEPT_EACH] != 0 {
         return use_once(given, table, line, work, BEGINNING, 0);
     }
     use_fresh(given, table, line, work, BEGINNING, 0)

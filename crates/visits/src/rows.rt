@@ -94,7 +94,7 @@ pub(crate) fn go_back(
     let mut at = pos_of(spot);
     let mut done = last;
     while turns != before {
-        keep(given, *line, *work, node, at, end_of(done), list_of(done));
+        keep(given, *work, node, at, end_of(done), list_of(done));
         let turn = turn_of(given, *work, turns);
         done = joined(*work, end_of(done), list_of(turn), list_of(done));
         at = end_of(turn);

@@ -1,16 +1,19 @@
 // The limits of line, room, working numbers, allowance and open visits, and the order in which they are tested.
 use crate::build;
+use crate::long_lines;
 use crate::say;
 use crate::say::Asked;
 use crate::sheets;
 
+// 8,002 visits are just enough for the longest line.
 pub(crate) fn line_length() {
     let mut table = [0u8; build::SPACE];
     let s = sheets::letters(&mut table);
-    let line = [b'a'; 256];
-    let most = page::front(&line, 255);
-    say::whole(b"S <- 'a'* on 255 bytes", &table, s, most, 2_500);
-    say::whole(b"S <- 'a'* on 256 bytes", &table, s, &line, 2_500);
+    let line = [b'a'; 4_001];
+    let most = page::front(&line, 4_000);
+    let asked = long_lines::lent_more(true, 8_002, say::LARGE_ROOM);
+    say::large(b"S <- 'a'* on 4000 bytes", &table, s, most, asked);
+    say::large(b"S <- 'a'* on 4001 bytes", &table, s, &line, asked);
 }
 
 // A on 7+2 makes 19 visits and stores 25 bytes. The formula then gives 2,048 + 4 x 19 + 2 x 7 x 4 = 2,180.
@@ -38,16 +41,22 @@ pub(crate) fn working_numbers() {
     lent_to_a(b"A on 7+2, no working numbers", 0, 25);
 }
 
-// For 1,000,000 visits the working numbers are too few here, and are lent in full for a tenth of them.
+// For 5,000,000 visits the working numbers are too few here, and are lent in full for a fiftieth of them.
 pub(crate) fn allowance() {
     let mut table = [0u8; build::SPACE];
     let a = sheets::a(&mut table);
     say::prefix(b"A on 7, allowance 0", &table, a, b"7", 0);
     say::prefix(b"A on 7, allowance 1", &table, a, b"7", 1);
-    say::prefix(b"A on 7, allowance 1000000", &table, a, b"7", 1_000_000);
-    say::prefix(b"A on 7, allowance 1000001", &table, a, b"7", 1_000_001);
+    say::prefix(b"A on 7, allowance 5000000", &table, a, b"7", 5_000_000);
+    say::prefix(b"A on 7, allowance 5000001", &table, a, b"7", 5_000_001);
     say::prefix(b"A on 7, allowance 2^64 - 1", &table, a, b"7", u64::MAX);
-    say::large(b"A on 7+2, allowance 100000", &table, a, b"7+2", 100_000);
+    let asked = Asked {
+        whole: false,
+        allowance: 100_000,
+        numbers: say::LARGE,
+        room: say::LARGE_ROOM,
+    };
+    say::large(b"A on 7+2, allowance 100000", &table, a, b"7+2", asked);
 }
 
 // Of S <- T, T <- 'a' T / (empty) on 169 bytes the most visits are open when the range fails at the line's end: 511, and one
@@ -81,8 +90,8 @@ fn nothing_lent_to_a(name: &[u8], line: &[u8], allowance: u64) {
 }
 
 pub(crate) fn order() {
-    let line = [b'7'; 256];
-    nothing_lent_to_a(b"A on 256 bytes, allowance 0, nothing lent", &line, 0);
+    let line = [b'7'; 4_001];
+    nothing_lent_to_a(b"A on 4001 bytes, allowance 0, nothing lent", &line, 0);
     nothing_lent_to_a(b"A on 7, allowance 0, nothing lent", b"7", 0);
     nothing_lent_to_a(b"A on 7, allowance 1, nothing lent", b"7", 1);
 }

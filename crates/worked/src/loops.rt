@@ -7,7 +7,7 @@ use crate::sheets;
 
 // Too long a line, no allowance and nothing lent: the table is refused all the same.
 fn nothing_lent(table: &Table, length: usize) {
-    let line = [b'k'; 256];
+    let line = [b'k'; 4_001];
     let asked = Asked {
         whole: false,
         allowance: 0,
@@ -15,7 +15,7 @@ fn nothing_lent(table: &Table, length: usize) {
         room: 0,
     };
     say::reading(
-        b"('kW'?)* on 256 bytes, allowance 0, nothing lent",
+        b"('kW'?)* on 4001 bytes, allowance 0, nothing lent",
         &[],
         table,
         length,

@@ -4,6 +4,7 @@ mod furthest;
 mod growing;
 mod limits;
 mod lines;
+mod long_lines;
 mod loops;
 mod rows;
 mod say;
@@ -36,6 +37,10 @@ fn main() {
     rows::come_back();
     rows::rows_in_a_row();
     rows::rows_of_trees();
+    long_lines::one_record();
+    long_lines::short_match();
+    long_lines::a_thousand_records();
+    long_lines::looking_to_the_end();
     tables::counts();
     tables::cuts();
     tables::roots();

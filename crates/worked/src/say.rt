@@ -9,9 +9,12 @@ const NUMBERS: usize = 16_384;
 
 const ROOM: usize = 5_005;
 
-// For 1,000,000 visits the formula asks for 16 MB, more than a stack commonly has. This serves a tenth of them, for sheet A
+// For 5,000,000 visits the formula asks for 80 MB, more than a stack commonly has. This serves 100,000 of them, for sheet A
 // on three bytes.
-const LARGE: usize = 402_104;
+pub(crate) const LARGE: usize = 402_104;
+
+// As long as the longest stored reading.
+pub(crate) const LARGE_ROOM: usize = 7_005;
 
 // What a reading is asked for, and lent.
 pub(crate) struct Asked {
@@ -65,14 +68,15 @@ fn read(
     }
 }
 
-fn stored_length(answer: Reading) -> usize {
+fn stored_length(line: &[u8], answer: Reading) -> usize {
     if answer.code != 0 {
         return 0;
     }
     if answer.records > 1_000 {
         return 0;
     }
-    5 + 5 * answer.records as usize
+    let version = stored::version_of(line.len());
+    stored::stored_length(version, answer.records as u32) as usize
 }
 
 fn put_answer(page: &mut Page, used: usize, answer: Reading) -> usize {
@@ -173,7 +177,7 @@ fn put_reading(
         &mut room[..k],
     );
     let at = put_answer(page, used, answer);
-    put_bytes(page, at, page::front(room, stored_length(answer)))
+    put_bytes(page, at, page::front(room, stored_length(line, answer)))
 }
 
 pub(crate) fn reading(
@@ -209,16 +213,10 @@ pub(crate) fn whole(name: &[u8], table: &Table, length: usize, line: &[u8], allo
     reading(name, &[], table, length, line, usual(true, allowance));
 }
 
-// A prefix reading with more working numbers.
-pub(crate) fn large(name: &[u8], table: &Table, length: usize, line: &[u8], allowance: u64) {
-    let asked = Asked {
-        whole: false,
-        allowance,
-        numbers: LARGE,
-        room: ROOM,
-    };
+// A reading that may be lent more.
+pub(crate) fn large(name: &[u8], table: &Table, length: usize, line: &[u8], asked: Asked) {
     let mut work = [7u32; LARGE];
-    let mut room = [7u8; ROOM];
+    let mut room = [7u8; LARGE_ROOM];
     let mut page = page::blank();
     let mut at = begin(&mut page, name, &[]);
     at = put_reading(

@@ -1,8 +1,8 @@
-//! Single lines that are timed by the visit: long ones, and ones with many
-//! uses live at once.
+//! Single lines that are timed by the visit: long ones, ones with many uses
+//! live at once, and ones that are lent more than they need.
 
-use koskorbelu::MOST_ALLOWANCE;
-use sheets::{decimal_comma, sheet_a, sum};
+use koskorbelu::{MOST_ALLOWANCE, MOST_LINE, MOST_LINE_OF_VERSION_1};
+use sheets::{decimal_comma, log_of_length, meter_log, sheet_a, sum, READING};
 
 use crate::{Lent, Sheet};
 
@@ -10,36 +10,104 @@ use crate::{Lent, Sheet};
 /// all of them made with all the uses live.
 const CUT: u64 = 100_000;
 
-/// One line each, with its visits; it is lent just what it needs.
+/// With this allowance six pairs of brackets are read, and seven are not.
+const A_MILLION: u64 = 1_000_000;
+
+/// One line each, with its visits; it is lent just what it needs, but for the
+/// last ones.
 pub fn lines_by_the_visit() -> Vec<(Sheet, u64)> {
-    let lines = long().into_iter().chain(nested()).chain(right_recursive());
-    lines.map(with_visits).collect()
+    let lines = short()
+        .into_iter()
+        .chain(long())
+        .chain(nested())
+        .chain(right_recursive());
+    let generous = generous().into_iter().map(as_allowed);
+    lines.map(with_visits).chain(generous).collect()
 }
 
-/// Of the sum sheet, of a number and of digits on a free sheet three lengths each:
-/// what a visit costs should not grow with the line, or with a row of digits.
-fn long() -> Vec<Sheet> {
-    let ones = |count: usize, between: &str| vec!["1"; count].join(between);
-    let whole = |name, sheet, line| one(name, sheet, line, MOST_ALLOWANCE);
+fn ones(count: usize, between: &str) -> String {
+    vec!["1"; count].join(between)
+}
+
+/// A line that is read to its end, however many visits that takes.
+fn whole(name: &'static str, sheet: sheets::Sheet, line: String) -> Sheet {
+    one(name, sheet, line, MOST_ALLOWANCE)
+}
+
+/// Two lengths each: what a visit costs should not grow with the line, or with
+/// a row of digits.
+fn short() -> Vec<Sheet> {
     vec![
-        whole("sheet A", sheet_a(), ones(128, "+")),
         whole("sum", sum(), ones(8, "+")),
         whole("sum", sum(), ones(32, "+")),
-        whole("sum", sum(), ones(128, "+")),
         whole("sum, a number", sum(), ones(15, "")),
         whole("sum, a number", sum(), ones(63, "")),
-        whole("sum, a number", sum(), ones(255, "")),
         whole("decimal comma, free", decimal_comma(), ones(15, "")),
         whole("decimal comma, free", decimal_comma(), ones(63, "")),
-        whole("decimal comma, free", decimal_comma(), ones(255, "")),
     ]
 }
 
+/// The longest line of version 1, or just below it, the longest of all, and one
+/// between them. Nothing is stored of over 1,000 records.
+fn long() -> Vec<Sheet> {
+    [MOST_LINE_OF_VERSION_1, 1_000, MOST_LINE]
+        .into_iter()
+        .flat_map(|bytes| {
+            let digits = bytes.div_ceil(2);
+            let readings = bytes / READING;
+            [
+                whole("sheet A", sheet_a(), ones(digits, "+")),
+                whole("sum", sum(), ones(digits, "+")),
+                whole("sum, a number", sum(), ones(bytes, "")),
+                whole("decimal comma, free", decimal_comma(), ones(bytes, "")),
+                whole(
+                    "meter log, free",
+                    meter_log(),
+                    log_of_length(readings * READING),
+                ),
+            ]
+        })
+        .collect()
+}
+
+/// The longest log, allowed as many visits as are always enough on a free sheet,
+/// and as many as can be allowed: working numbers that no cache holds.
+fn generous() -> [Sheet; 2] {
+    let log = log_of_length(MOST_LINE / READING * READING);
+    let nodes = meter_log().nodes.len();
+    let enough = 2 * (nodes * (log.len() + 1)) as u64 + 1;
+    [
+        one("meter log, always enough", meter_log(), log.clone(), enough),
+        whole("meter log, the most", meter_log(), log),
+    ]
+}
+
+/// What the longest line costs by the visit beside the longest of version 1.
+pub fn print_growth(timed: &[(&'static str, usize, Vec<f64>)], readers: &[&str]) {
+    println!();
+    println!("a visit on the longest line, in times of one on the longest of version 1");
+    println!("  {:28} {}", "", readers.join("  "));
+    for (name, bytes, long) in timed.iter().filter(|line| line.1 > MOST_LINE - READING) {
+        let of_version_1 = MOST_LINE_OF_VERSION_1 - READING..=MOST_LINE_OF_VERSION_1;
+        let short = timed
+            .iter()
+            .find(|line| line.0 == *name && of_version_1.contains(&line.1));
+        if let Some((_, short_bytes, short)) = short {
+            let ratios: Vec<String> = long
+                .iter()
+                .zip(short)
+                .map(|(long, short)| format!("{:6.3}", long / short))
+                .collect();
+            println!("  {name:20} {bytes:4}/{short_bytes} {}", ratios.join("  "));
+        }
+    }
+}
+
 /// A digit in brackets. Each pair makes four times the visits, so the program's
-/// allowance reads two, and the largest six and no more. With more it is spent at
+/// allowance reads two, and a million six and no more. With more it is spent at
 /// the innermost, with up to 62 pairs: one more is too deep.
 fn nested() -> Vec<Sheet> {
-    let nested = |name, pairs| one(name, sum(), in_brackets(pairs), MOST_ALLOWANCE);
+    let nested = |name, pairs| one(name, sum(), in_brackets(pairs), A_MILLION);
     vec![
         nested("sum, 1 pair of brackets", 1),
         nested("sum, 2 pairs of brackets", 2),
@@ -116,6 +184,12 @@ fn with_visits(mut sheet: Sheet) -> (Sheet, u64) {
     (sheet, answer.visits)
 }
 
+/// With the allowance that it has.
+fn as_allowed(sheet: Sheet) -> (Sheet, u64) {
+    let visits = answer(&sheet).visits;
+    (sheet, visits)
+}
+
 fn answer(sheet: &Sheet) -> plain::Answer {
     let line = &sheet.lines[0];
     let mut lent = Lent::new(sheet.cleared(line));
@@ -174,7 +248,7 @@ mod tests {
 
     #[test]
     fn six_pairs_are_read_and_62_are_not_too_deep() {
-        let ends = |pairs| code_and_most_live(sum(), in_brackets(pairs), MOST_ALLOWANCE);
+        let ends = |pairs| code_and_most_live(sum(), in_brackets(pairs), A_MILLION);
         assert_eq!(ends(6), (independent::READ, 14));
         assert_eq!(ends(7), (independent::EFFORT, 16));
         assert_eq!(ends(62), (independent::EFFORT, 126));

@@ -1,5 +1,5 @@
 //! Times each reader on a thousand lines of four sheets, by the visit on lines
-//! of up to 255 bytes and with up to 409 uses live at once, and its check and
+//! of up to 4,000 bytes and with up to 409 uses live at once, and its check and
 //! its report on small and full tables.
 //!
 //! A reading is timed as a whole: check, report, reading, storing, clearing.
@@ -118,6 +118,7 @@ fn main() {
         println!("  ns a line        whole  ratio      rest  ratio   (clearing {clearing:.0})");
         print_columns(&readers, &times, 1.0, 0);
     }
+    let mut timed = Vec::new();
     for (sheet, visits) in lines_by_the_visit() {
         let line = &sheet.lines[0];
         let mut lent = Lent::new(sheet.cleared(line));
@@ -135,7 +136,11 @@ fn main() {
             times[0].clearing / visits as f64
         );
         print_columns(&readers, &times, visits as f64, 2);
+        let a_visit = times[0].readings.iter().map(|time| time / visits as f64);
+        timed.push((sheet.name, line.len(), a_visit.collect()));
     }
+    let names: Vec<&str> = readers.iter().map(|reader| reader.name).collect();
+    by_visit::print_growth(&timed, &names);
     for (name, table) in check_tables() {
         println!();
         println!("check, {name}: {} bytes", table.len());

@@ -1,10 +1,12 @@
 //! Damaged tables: every byte, every field, every length, and which damage
 //! is named first.
 
+use independent::{LONGEST_LINE, MOST_ALLOWANCE};
 use sheets::{Node, Sheet};
 
 use crate::maker::Maker;
 use crate::textbook::examples;
+use crate::version::LONGEST_OF_VERSION_1;
 
 const MOST_NODES: usize = 512;
 const MOST_RULES: usize = 64;
@@ -255,21 +257,22 @@ fn counts(maker: &mut Maker) {
 /// The table before the line, the line before the allowance, the allowance
 /// before the working numbers.
 fn order_of_the_checks(maker: &mut Maker, victims: &[Sheet]) {
-    let lines: [&[u8]; 3] = [b"7", &[b'a'; 255], &[b'a'; 256]];
+    let mut tables = Vec::new();
     for victim in victims {
         let good = victim.bytes();
         let mut bad = good.clone();
         let at = maker.random.below(bad.len() as u64) as usize;
         bad[at] ^= 0xC0;
-        for table in [&good, &bad] {
+        tables.extend([good, bad]);
+    }
+    for length in [1, LONGEST_OF_VERSION_1 + 1, LONGEST_LINE, LONGEST_LINE + 1] {
+        maker.line(&vec![b'7'; length]);
+        for table in &tables {
             maker.table(table);
-            for line in lines {
-                maker.line(line);
-                for allowance in [0, 5, 1_000_001] {
-                    let whole = maker.random.chance(50);
-                    maker.read(whole, allowance, 0, 0);
-                    maker.read(!whole, allowance, maker.needed(5).min(9_000), 20);
-                }
+            for allowance in [0, 5, MOST_ALLOWANCE + 1] {
+                let whole = maker.random.chance(50);
+                maker.read(whole, allowance, 0, 0);
+                maker.read(!whole, allowance, maker.needed(5).min(9_000), 20);
             }
         }
     }

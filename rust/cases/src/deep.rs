@@ -231,7 +231,7 @@ mod tests {
 
     fn code(sheet: &Sheet, length: usize) -> u64 {
         let mut work = vec![0; 20_000];
-        let mut room = vec![0; 5_005];
+        let mut room = vec![0; crate::version::FULL_ROOM];
         let line = vec![b'a'; length];
         independent::read(&sheet.bytes(), &line, 1_500, &mut work, &mut room, true).code
     }

@@ -38,11 +38,7 @@ fn read_and_refused(maker: &mut Maker) {
     let visits = maker.trial(false, allowance).visits;
     maker.read_with_enough(true, visits, 60);
     maker.read_with_enough(false, visits + 1, 60);
-    let step = visits.div_ceil(MOST_REFUSED + 1).max(1);
-    for allowance in (step..visits).step_by(step as usize) {
-        let whole = maker.random.chance(50);
-        maker.read_with_enough(whole, allowance, 60);
-    }
+    maker.refused_in_steps(visits, MOST_REFUSED);
 }
 
 /// Down the line, with a look some bytes ahead at each: the furthest range is
@@ -270,7 +266,7 @@ fn held_behind() -> Sheet {
 }
 
 /// S <- 'a'*, which asks at the line's end.
-fn all() -> Sheet {
+pub fn all() -> Sheet {
     let mut sheet = Sheet::new();
     let a = sheet.byte(b'a');
     let root = sheet.repetition(a);
@@ -362,10 +358,12 @@ fn not_itself_alone() -> Sheet {
 #[cfg(test)]
 mod tests {
     use super::*;
+    use crate::maker::USUAL_WORK;
+    use crate::version::FULL_ROOM;
     use independent::{Answer, DEEP, EFFORT, FAIL, READ};
 
     fn read(sheet: &Sheet, line: &[u8], allowance: u64) -> Answer {
-        let (mut work, mut room) = (vec![0; 65_536], vec![0; 5_005]);
+        let (mut work, mut room) = (vec![0; USUAL_WORK as usize], vec![0; FULL_ROOM]);
         independent::read(&sheet.bytes(), line, allowance, &mut work, &mut room, false)
     }
 

@@ -316,10 +316,12 @@ fn name_through(sheet: &mut Sheet, rules: u16, last: u16) {
 #[cfg(test)]
 mod tests {
     use super::*;
+    use crate::maker::USUAL_WORK;
+    use crate::version::FULL_ROOM;
     use independent::{Answer, DEEP, EFFORT, READ};
 
     fn read(sheet: &Sheet, line: &[u8], allowance: u64) -> Answer {
-        let (mut work, mut room) = (vec![0; 65_536], vec![0; 5_005]);
+        let (mut work, mut room) = (vec![0; USUAL_WORK as usize], vec![0; FULL_ROOM]);
         independent::read(&sheet.bytes(), line, allowance, &mut work, &mut room, false)
     }
 

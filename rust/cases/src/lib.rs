@@ -11,6 +11,7 @@ mod desk;
 mod formed;
 mod furthest;
 mod growing;
+mod long_lines;
 mod maker;
 mod nothing;
 pub mod program;
@@ -21,13 +22,14 @@ mod rows;
 mod soup;
 mod tally;
 mod textbook;
+mod version;
 mod worked;
 
 pub use command::{decode, Command, Lending};
 pub use desk::{run, Desk, Read, Readers};
 pub use maker::Cases;
 pub use random::Random;
-pub use tally::{Furthest, Growth, Tables, Tally, Turns};
+pub use tally::{Formed, Furthest, Growth, LongLines, Tables, Tally, Turns};
 pub use textbook::dear_sums;
 pub use worked::text as worked_text;
 
@@ -37,7 +39,7 @@ use maker::Maker;
 pub const SEED: u64 = 20_260_401;
 
 /// So many answered commands are made.
-pub const COMMANDS: u64 = 26_000;
+pub const COMMANDS: u64 = 34_000;
 
 /// All cases of a seed.
 pub fn make(seed: u64) -> Cases {
@@ -50,6 +52,7 @@ pub fn make(seed: u64) -> Cases {
     furthest::add(&mut maker);
     growing::add(&mut maker);
     rows::add(&mut maker);
+    long_lines::add(&mut maker);
     formed::add(&mut maker);
     // Random sheets fill what is left.
     soup::add(&mut maker, COMMANDS);
@@ -82,6 +85,7 @@ mod tests {
             furthest::add,
             growing::add,
             rows::add,
+            long_lines::add,
             formed::add,
         ] {
             assert_eq!(loops(add), 0);

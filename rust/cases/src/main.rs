@@ -3,7 +3,7 @@
 
 use std::process::ExitCode;
 
-use cases::{make, Furthest, Growth, Tally, Turns, SEED};
+use cases::{make, Formed, Furthest, Growth, LongLines, Tally, Turns, SEED};
 
 /// Fewer than this of any code are too few to compare by.
 const LEAST_OF_A_CODE: u64 = 50;
@@ -15,6 +15,11 @@ const LEAST_TABLES: u64 = 200;
 /// Of each sort of readings by how far ranges were asked, and by what they would
 /// be if every rule became live, and if each turn opened one visit more.
 const LEAST_READINGS: u64 = 100;
+/// Of readings in version 2, and of those among them whose match passes 255.
+const LEAST_IN_VERSION_2: u64 = 300;
+/// Of stored readings by version and line, of those refused for room that version 1
+/// would have had, and of each refusal above 255.
+const LEAST_BY_VERSION: u64 = 50;
 
 fn main() -> ExitCode {
     let arguments: Vec<String> = std::env::args().skip(1).collect();
@@ -48,8 +53,14 @@ fn print_counts(tally: &Tally) {
         let name = independent::names(code as u64).expect("codes have names");
         eprintln!("{code:2} {name:8} {count:6}");
     }
-    let [not, is] = tally.well_formed;
-    eprintln!("well formed {is}, not well formed {not}");
+    let formed = &tally.formed;
+    eprintln!(
+        "well formed {}, not well formed {}",
+        formed.is, formed.is_not
+    );
+    for (sort, count) in sorts_of_stored(formed) {
+        eprintln!("{sort} {count}");
+    }
     let tables = &tally.tables;
     eprintln!(
         "tables with a repetition of nothing {}",
@@ -70,6 +81,10 @@ fn print_counts(tally: &Tally) {
     for (sort, count) in sorts_by_turns(&tally.turns) {
         eprintln!("readings, DEEP by turns, {sort} {count}");
     }
+    for (sort, count, _) in sorts_of_long_lines(&tally.long_lines) {
+        eprintln!("readings, line over 255, {sort} {count}");
+    }
+    eprintln!("readings with over 65,536 numbers lent {}", tally.lent_more);
     eprintln!("commands {}", tally.commands);
 }
 
@@ -109,6 +124,49 @@ fn sorts_by_turns(turns: &Turns) -> [(&'static str, u64); 5] {
     ]
 }
 
+/// Of lines that give version 2, with how many are enough.
+fn sorts_of_long_lines(long: &LongLines) -> [(&'static str, u64, u64); 10] {
+    [
+        ("READ", long.read, LEAST_IN_VERSION_2),
+        ("READ within 255", long.short_match, LEAST_READINGS),
+        ("READ beyond 255", long.long_match, LEAST_IN_VERSION_2),
+        ("ROOM", long.room, LEAST_READINGS),
+        (
+            "ROOM, not so in version 1",
+            long.room_for_version_1,
+            LEAST_BY_VERSION,
+        ),
+        (
+            "FAIL, furthest over 255",
+            long.fail_above_255,
+            LEAST_BY_VERSION,
+        ),
+        ("REST over 255", long.rest_above_255, LEAST_BY_VERSION),
+        ("EFFORT over 255", long.effort_above_255, LEAST_BY_VERSION),
+        ("DEEP over 255", long.deep_above_255, LEAST_BY_VERSION),
+        ("RECORDS over 255", long.records_above_255, LEAST_BY_VERSION),
+    ]
+}
+
+/// Stored readings of both versions, by the lines they are held against.
+fn sorts_of_stored(formed: &Formed) -> Vec<(String, u64)> {
+    let mut sorts = Vec::new();
+    let lines = ["up to 255", "up to 4,000", "over 4,000"];
+    for version in 0..2 {
+        let name = format!("stored, version {}", version + 1);
+        sorts.push((format!("{name}, well formed"), formed.by_version[version]));
+        for (line, kind) in lines.into_iter().enumerate() {
+            let not = formed.not_by_line[version][line];
+            sorts.push((format!("{name}, not well formed, line {kind}"), not));
+            if line != version {
+                let but = formed.but_for_the_line[version][line];
+                sorts.push((format!("{name}, but for the line {kind}"), but));
+            }
+        }
+    }
+    sorts
+}
+
 fn enough(tally: &Tally) -> bool {
     let tables = &tally.tables;
     let sorts = [
@@ -121,8 +179,12 @@ fn enough(tally: &Tally) -> bool {
     let mut readings = sorts_of_readings(&tally.furthest).to_vec();
     readings.extend(sorts_by_growth(&tally.growth));
     readings.extend(sorts_by_turns(&tally.turns));
+    let stored = sorts_of_stored(&tally.formed);
+    let long_lines = sorts_of_long_lines(&tally.long_lines);
     tally.commands >= LEAST_COMMANDS
         && tally.codes.iter().all(|&count| count >= LEAST_OF_A_CODE)
         && sorts.iter().all(|&count| count >= LEAST_TABLES)
         && readings.iter().all(|&(_, count)| count >= LEAST_READINGS)
+        && stored.iter().all(|&(_, count)| count >= LEAST_BY_VERSION)
+        && long_lines.iter().all(|&(_, count, least)| count >= least)
 }

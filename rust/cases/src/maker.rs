@@ -2,19 +2,23 @@
 
 use std::collections::HashSet;
 
-use independent::{Ways, EFFORT, READ, ROOM};
+use independent::{Ways, EFFORT, MOST_ALLOWANCE, READ, ROOM};
 
 use crate::command::{Command, Lending};
 use crate::desk::{print, Desk, Readers};
 use crate::random::Random;
 use crate::tally::Tally;
+use crate::version::{stored_length, version, FULL_ROOM, MOST_RECORDS};
 
 /// The most a command can lend.
-const MOST_WORK: u64 = 65_536;
-const MOST_ROOM: u64 = 5_120;
+const MOST_WORK: u64 = 262_144;
+pub const MOST_ROOM: u64 = 7_168;
 
-/// Room for the largest stored reading.
-const FULL_ROOM: usize = 5_005;
+/// The longest line of a command.
+pub const MOST_LINE: usize = 4_100;
+
+/// The most that nearly all commands lend: whoever answers fills and digests it.
+pub const USUAL_WORK: u64 = 65_536;
 
 /// The finished cases.
 pub struct Cases {
@@ -43,10 +47,10 @@ impl Trial {
         let answer =
             independent::read_with(ways, table, line, allowance, &mut work, &mut room, whole);
         let stored = match answer.code {
-            READ => 5 + 5 * answer.records as usize,
+            READ => stored_length(version(line.len() as u64), answer.records),
             _ => 0,
         };
-        room.truncate(stored);
+        room.truncate(stored as usize);
         Trial {
             code: answer.code,
             visits: answer.visits,
@@ -62,13 +66,15 @@ fn needed(table: &[u8], line: &[u8], allowance: u64) -> u64 {
         [_, _, _, high, low, ..] => u64::from(*high) * 256 + u64::from(*low),
         _ => 0,
     };
-    2_048 + 4 * allowance.min(1_000_000) + 2 * n * (line.len() as u64 + 1)
+    2_048 + 4 * allowance.min(MOST_ALLOWANCE) + 2 * n * (line.len() as u64 + 1)
 }
 
 pub struct Maker {
     pub random: Random,
     desk: Desk,
     cases: Cases,
+    /// The most working numbers that are lent.
+    most_work: u64,
     /// The tables counted.
     counted: HashSet<Vec<u8>>,
 }
@@ -83,6 +89,7 @@ impl Maker {
                 stdout: Vec::new(),
                 tally: Tally::default(),
             },
+            most_work: USUAL_WORK,
             counted: HashSet::new(),
         }
     }
@@ -106,12 +113,19 @@ impl Maker {
         let tally = &mut self.cases.tally;
         tally.commands += 1;
         let first = numbers[0] as usize;
-        match command {
-            Command::WellFormed { .. } => tally.well_formed[first] += 1,
+        match &command {
+            Command::WellFormed {
+                rules,
+                line_length,
+                stored,
+            } => tally.formed.count(stored, *rules, *line_length, first == 1),
             _ => tally.codes[first] += 1,
         }
         if let Command::Read(lending) = command {
-            tally.furthest.count(&numbers, self.desk.line().len());
+            let line_length = self.desk.line().len();
+            tally.furthest.count(&numbers, line_length);
+            tally.long_lines.count(&numbers, &lending, line_length);
+            tally.lent_more += u64::from(u64::from(lending.work) > USUAL_WORK);
             self.count_beside_others(&numbers, &lending);
         }
         if let Command::Report | Command::Read(_) = command {
@@ -164,6 +178,7 @@ impl Maker {
     }
 
     pub fn line(&mut self, line: &[u8]) {
+        assert!(line.len() <= MOST_LINE);
         if self.desk.line() != line {
             self.put(Command::Line(line.to_vec()));
         }
@@ -186,14 +201,21 @@ impl Maker {
         });
     }
 
-    /// A reading of the current table and line. More than a command can lend
-    /// is cut down to the most it can.
+    /// Makes commands that may lend the most there is.
+    pub fn lending_most(&mut self, add: impl FnOnce(&mut Maker)) {
+        self.most_work = MOST_WORK;
+        add(self);
+        self.most_work = USUAL_WORK;
+    }
+
+    /// A reading of the current table and line. More than is lent at most is cut
+    /// down to that.
     pub fn read(&mut self, whole: bool, allowance: u64, work: u64, room: u64) {
         let fill = self.random.below(256) as u8;
         self.put(Command::Read(Lending {
             whole,
             allowance,
-            work: work.min(MOST_WORK) as u32,
+            work: work.min(self.most_work) as u32,
             room: room.min(MOST_ROOM) as u16,
             fill,
         }));
@@ -207,8 +229,13 @@ impl Maker {
 
     /// The largest allowance, up to `wish`, whose working numbers can be lent.
     pub fn affordable(&self, wish: u64) -> u64 {
-        let spare = MOST_WORK.saturating_sub(self.needed(0));
+        let spare = self.most_work.saturating_sub(self.needed(0));
         wish.min(spare / 4).max(1)
+    }
+
+    /// Room for a thousand records of the current line.
+    pub fn full_room(&self) -> u64 {
+        stored_length(version(self.desk.line().len() as u64), MOST_RECORDS)
     }
 
     /// A reading with working numbers for its allowance and mostly a few more.
@@ -258,6 +285,16 @@ impl Maker {
         }
     }
 
+    /// Refused for effort at allowances below so many visits: each, or as many as
+    /// said in even steps.
+    pub fn refused_in_steps(&mut self, visits: u64, most: u64) {
+        let step = visits.div_ceil(most + 1).max(1);
+        for allowance in (step..visits).step_by(step as usize) {
+            let whole = self.random.chance(50);
+            self.read_with_enough(whole, allowance, 60);
+        }
+    }
+
     /// The allowances at which the reading ends, and would end in other ways, with
     /// one more and one less.
     pub fn both_edges(&mut self, other: Ways, whole: bool) {
@@ -280,7 +317,7 @@ impl Maker {
     /// The allowances at and beyond their limits. Working numbers for the
     /// largest cannot be lent, so that one asks for more of them.
     pub fn allowance_limits(&mut self, whole: bool) {
-        for allowance in [0, 1_000_000, 1_000_001, 1 << 63, u64::MAX] {
+        for allowance in [0, MOST_ALLOWANCE, MOST_ALLOWANCE + 1, 1 << 63, u64::MAX] {
             let work = self.random.pick(&[0, 100, 2_600]);
             self.read(whole, allowance, work, 40);
         }

@@ -1,12 +1,13 @@
 //! Repetitions of nothing, which the check refuses, and near twins of them
 //! that it accepts.
 
-use independent::LOOP;
+use independent::{LONGEST_LINE, LOOP, MOST_ALLOWANCE};
 use sheets::{sheet_b, Sheet};
 
 use crate::maker::Maker;
 use crate::reach::append;
 use crate::soup::{any_soup, drawn_line};
+use crate::version::AROUND_VERSION_1;
 
 const MOST_NODES: usize = 512;
 const MOST_RULES: u16 = 64;
@@ -373,7 +374,7 @@ pub fn ask_refused(maker: &mut Maker, sheet: &Sheet) {
     maker.report();
     for _ in 0..2 {
         some_line(maker);
-        let allowance = maker.random.pick(&[0, 1, 60, 60, 60, 1_000_001]);
+        let allowance = maker.random.pick(&[0, 1, 60, 60, 60, MOST_ALLOWANCE + 1]);
         let needed = maker.needed(allowance.min(60));
         let work = maker.random.pick(&[0, needed - 1, needed, needed + 9]);
         let (whole, room) = (maker.random.chance(50), maker.random.below(40));
@@ -381,10 +382,11 @@ pub fn ask_refused(maker: &mut Maker, sheet: &Sheet) {
     }
 }
 
-/// Mostly short, now and then at the limit or over it.
+/// Mostly short, now and then of version 2 or too long.
 fn some_line(maker: &mut Maker) {
-    let length = match maker.random.below(12) {
-        0 => maker.random.pick(&[255, 256, 300]),
+    let length = match maker.random.below(120) {
+        0 => LONGEST_LINE + 1,
+        1..=8 => maker.random.pick(&AROUND_VERSION_1),
         _ => maker.random.below(4) as usize,
     };
     maker.line(&vec![b'a'; length]);

@@ -9,16 +9,15 @@ pub use run::{run, Ran};
 
 use std::collections::{BTreeSet, HashMap};
 
-use independent::{ALLOW, CODES, READ, ROOM};
+use independent::{ALLOW, CODES, READ};
 
 /// What the program lends for each line.
-const ALLOWANCE: u64 = 2_500;
-const NUMBERS: usize = 16_384;
-const ROOM_LENGTH: usize = 5_005;
+pub const ALLOWANCE: u64 = 2_500;
+pub const NUMBERS: usize = 16_384;
+pub const ROOM_LENGTH: usize = 5_005;
 
-/// Codes that the program never gives: its allowance is in range, and its room
-/// holds 1,000 records, the most that are stored at all.
-const NEVER: [u64; 2] = [ALLOW, ROOM];
+/// What the program never answers: its allowance is in range.
+const NEVER: [u64; 1] = [ALLOW];
 
 /// What is printed where there is no table to read.
 const NO_TABLE: &str = "GRAMMAR";

@@ -57,7 +57,7 @@ fn edges_both_ways(maker: &mut Maker, allowance: u64) {
     if visits < 200 {
         maker.edges(true, allowance);
     } else {
-        maker.read_with_enough(true, visits, 5_005);
+        maker.read_with_enough(true, visits, maker.full_room());
     }
 }
 
@@ -140,7 +140,7 @@ fn held_four_times(steps: u16) -> Sheet {
 
 /// S <- W1 'a' / 'a'; W1 <- W2; ... the last W <- S: each byte nests one tree
 /// for every rule, so trees are far deeper than visits are open.
-fn nested_by_growth(steps: u16) -> Sheet {
+pub fn nested_by_growth(steps: u16) -> Sheet {
     let mut sheet = Sheet::new();
     let a = sheet.byte(b'a');
     let first = sheet.rule(1 % (steps + 1));
@@ -172,25 +172,20 @@ pub fn four_a_byte() -> Sheet {
 /// around each byte, four lengths around the limit.
 fn many_records_over_a_line(maker: &mut Maker) {
     // S <- S 'a' / 'a': one record a byte, nested as deep as the line.
-    let mut grown = Sheet::new();
-    let s = grown.rule(0);
-    let a = grown.byte(b'a');
-    let longer = grown.sequence(s, a);
-    let root = grown.choice(longer, a);
-    grown.root(root);
-    for (sheet, allowance) in [(four_a_byte(), 3_000), (grown, 2_000)] {
+    for (sheet, allowance) in [(four_a_byte(), 3_000), (nested_by_growth(0), 2_000)] {
         maker.table(&sheet.bytes());
         for length in [1, 100, 249, 250, 251, 254, 255, 256] {
             maker.line(&vec![b'a'; length]);
-            maker.read_with_enough(false, allowance, 5_005);
-            maker.read_with_enough(true, allowance, 5_004);
+            let room = maker.full_room();
+            maker.read_with_enough(false, allowance, room);
+            maker.read_with_enough(true, allowance, room - 1);
         }
     }
     // S <- W 'a' / 'a'; W <- V; V <- U; U <- S: four records a byte by growth.
     maker.table(&nested_by_growth(3).bytes());
     for length in [200, 250, 251, 255] {
         maker.line(&vec![b'a'; length]);
-        maker.read_with_enough(true, 10_000, 5_005);
+        maker.read_with_enough(true, 10_000, maker.full_room());
     }
 }
 
@@ -200,7 +195,7 @@ mod tests {
 
     fn records_of(sheet: &Sheet, line: &[u8], allowance: u64) -> independent::Answer {
         let mut work = vec![0; 200_000];
-        let mut room = vec![0; 5_005];
+        let mut room = vec![0; crate::version::FULL_ROOM];
         independent::read(&sheet.bytes(), line, allowance, &mut work, &mut room, true)
     }
 

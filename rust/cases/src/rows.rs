@@ -190,6 +190,22 @@ fn tower(row: Row, pads: usize, free: bool) -> Sheet {
     }
 }
 
+/// Sheets whose rows can be as long as a line, free and not, with what such a line
+/// repeats.
+pub fn long_rows() -> Vec<(&'static str, [Sheet; 2])> {
+    let rows: [(Row, &str); 7] = [
+        (bytes, "a"),
+        (words, "ab"),
+        (rows_in_a_row, "aab"),
+        (rows_in_rows, "aabbc"),
+        (named, "a"),
+        (behind_a_look, "a"),
+        (numbers, "77+7"),
+    ];
+    let both = |row| [true, false].map(|free| tower(row, 0, free));
+    rows.map(|(row, unit)| (unit, both(row))).to_vec()
+}
+
 /// So many bytes 'x' are nearly too deep.
 fn nearly(free: bool) -> usize {
     if free {
@@ -278,7 +294,7 @@ fn rows_of_trees(maker: &mut Maker) {
 }
 
 /// S <- R*; R <- the next of so many rules, the last 'a'.
-fn row_of_names(rules: u16) -> Sheet {
+pub fn row_of_names(rules: u16) -> Sheet {
     let mut sheet = Sheet::new();
     let r = sheet.rule(1);
     let root = sheet.repetition(r);
@@ -305,10 +321,12 @@ fn nested_sums(maker: &mut Maker) {
 #[cfg(test)]
 mod tests {
     use super::*;
+    use crate::maker::USUAL_WORK;
+    use crate::version::FULL_ROOM;
     use independent::{Answer, READ, RECORDS};
 
     fn read(sheet: &Sheet, line: &[u8]) -> Answer {
-        let (mut work, mut room) = (vec![0; 65_536], vec![0; 5_005]);
+        let (mut work, mut room) = (vec![0; USUAL_WORK as usize], vec![0; FULL_ROOM]);
         independent::read(&sheet.bytes(), line, 6_000, &mut work, &mut room, false)
     }
 

@@ -5,6 +5,7 @@ use sheets::{Node, Sheet};
 use crate::maker::{Maker, Trial};
 use crate::nothing::{ask_refused, is_loop, mend, spoilt};
 use crate::reach::{add_edge, add_unused, append, swap_rules, EDGES, FORMS};
+use crate::version::AROUND_VERSION_1;
 
 /// Makes random sheets with readings until so many commands are made.
 pub fn add(maker: &mut Maker, commands: u64) {
@@ -35,7 +36,7 @@ pub fn add(maker: &mut Maker, commands: u64) {
 
 /// A random sheet. Most of them make no tree worth comparing, so most of
 /// those are passed over.
-fn some_sheet(maker: &mut Maker, alphabet: &[u8]) -> Sheet {
+pub fn some_sheet(maker: &mut Maker, alphabet: &[u8]) -> Sheet {
     loop {
         let sheet = match maker.random.below(5) {
             0 => {
@@ -160,7 +161,7 @@ fn some_readings(maker: &mut Maker) {
 fn some_line(maker: &mut Maker, sheet: &Sheet, alphabet: &[u8]) -> Vec<u8> {
     let chosen = maker.random.below(100);
     if chosen < 3 {
-        let length = maker.random.pick(&[254, 255, 256, 300]);
+        let length = maker.random.pick(&AROUND_VERSION_1) as u64;
         return random_line(maker, alphabet, length);
     }
     if chosen < 35 {

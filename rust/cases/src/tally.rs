@@ -1,5 +1,9 @@
 //! What the cases are, counted.
 
+mod versions;
+
+pub use versions::{Formed, LongLines};
+
 use std::cmp::Ordering;
 
 use independent::{DEEP, EFFORT, FAIL, LOOP, READ, REST};
@@ -11,8 +15,8 @@ pub struct Tally {
     pub commands: u64,
     /// Times each code was given by check, report or reading.
     pub codes: [u64; independent::CODES],
-    /// Times a stored reading was not and was well formed.
-    pub well_formed: [u64; 2],
+    /// Stored readings by version and by the line they are held against.
+    pub formed: Formed,
     /// Tables that were reported on or read by, each counted once.
     pub tables: Tables,
     /// Readings by how far ranges were asked.
@@ -21,6 +25,10 @@ pub struct Tally {
     pub growth: Growth,
     /// Readings by what they would be if each turn opened one visit more.
     pub turns: Turns,
+    /// Readings of lines that give version 2.
+    pub long_lines: LongLines,
+    /// Readings that are lent more working numbers than usual.
+    pub lent_more: u64,
 }
 
 /// How many readings there are of each sort, by tables that aren't free. The

@@ -3,14 +3,27 @@
 
 use sheets::{sheet_a, sheet_b, sum, Sheet};
 
+use crate::long_lines::over_and_over;
 use crate::maker::Maker;
+use crate::program::{ALLOWANCE, NUMBERS, ROOM_LENGTH};
 use crate::reach::{not_free, with_unused, with_used, Form, EDGES, FORMS};
 use crate::soup::drawn_line;
+use crate::version::AROUND_VERSION_1;
 
 /// A sheet and its lines.
 pub struct Example {
     pub sheet: Sheet,
     pub lines: Vec<&'static str>,
+}
+
+impl Example {
+    /// The longest of the lines over and over, up to that length.
+    pub fn long_line(&self, length: usize) -> Vec<u8> {
+        let longest = self.lines.iter().max_by_key(|line| line.len());
+        let longest = longest.expect("each example has lines");
+        let pattern = if longest.is_empty() { "a" } else { longest };
+        over_and_over(pattern, length)
+    }
 }
 
 /// Sheet B with its choice turned round.
@@ -564,7 +577,7 @@ pub fn add(maker: &mut Maker) {
         }
         maker.allowance_limits(false);
         maker.allowance_limits(true);
-        long_lines(maker, &example);
+        lines_around_version_1(maker, &example);
         as_the_program_asks(maker, &example);
     }
 }
@@ -574,28 +587,17 @@ fn as_the_program_asks(maker: &mut Maker, example: &Example) {
     for _ in 0..6 {
         let line = drawn_line(maker, &example.sheet);
         maker.line(&line);
-        maker.read(true, 2_500, 16_384, 5_005);
+        maker.read(true, ALLOWANCE, NUMBERS as u64, ROOM_LENGTH as u64);
     }
 }
 
-/// Lines of 254, 255 and 256 bytes: the longest example line over and over.
-fn long_lines(maker: &mut Maker, example: &Example) {
-    let longest = example
-        .lines
-        .iter()
-        .max_by_key(|line| line.len())
-        .expect("each example has lines");
-    let pattern = if longest.is_empty() { "a" } else { longest };
-    let long: Vec<u8> = pattern.bytes().cycle().take(300).collect();
-    for length in [254, 255, 256, 300] {
-        maker.line(&long[..length]);
+/// Lines about as long as those of version 1 can be.
+fn lines_around_version_1(maker: &mut Maker, example: &Example) {
+    for length in AROUND_VERSION_1 {
+        maker.line(&example.long_line(length));
         let whole = maker.random.chance(50);
         let allowance = maker.affordable(700);
         maker.read_with_enough(whole, allowance, 600);
-        if length > 255 {
-            // A line too long is named before a wrong allowance.
-            maker.read(!whole, 0, 0, 0);
-        }
     }
 }
 

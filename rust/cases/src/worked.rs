@@ -5,6 +5,7 @@ mod furthest;
 mod growing;
 mod limits;
 mod lines;
+mod long_lines;
 mod loops;
 mod rows;
 mod tables;
@@ -12,6 +13,9 @@ mod tables;
 use std::fmt::Write;
 
 use sheets::{Node, Sheet};
+
+use crate::program::{NUMBERS, ROOM_LENGTH};
+use crate::version::{stored_length, version};
 
 /// What a reading is asked for, and lent.
 #[derive(Clone, Copy)]
@@ -27,8 +31,8 @@ fn prefix(allowance: u64) -> Asked {
     Asked {
         whole: false,
         allowance,
-        numbers: 16_384,
-        room: 5_005,
+        numbers: NUMBERS,
+        room: ROOM_LENGTH,
     }
 }
 
@@ -89,10 +93,10 @@ impl Page {
             asked.whole,
         );
         let stored = match answer.code {
-            independent::READ => 5 + 5 * answer.records as usize,
+            independent::READ => stored_length(version(line.len() as u64), answer.records),
             _ => 0,
         };
-        self.say(name, &answer.numbers(), &room[..stored]);
+        self.say(name, &answer.numbers(), &room[..stored as usize]);
     }
 }
 
@@ -113,6 +117,7 @@ pub fn text() -> String {
     limits::open_visits(&mut page);
     limits::order_of_a_reading(&mut page);
     rows::rows(&mut page);
+    long_lines::long_lines(&mut page);
     tables::counts(&mut page);
     tables::cuts(&mut page);
     tables::roots(&mut page);

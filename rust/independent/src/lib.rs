@@ -15,9 +15,14 @@ mod ways;
 pub use reading::{read, read_with, searches, Answer};
 pub use report::{report, Report};
 pub use searches::Searches;
-pub use stored::well_formed;
+pub use stored::{version, well_formed};
 pub use table::check;
 pub use ways::{Live, Turns, Ways};
+
+/// A longer line is refused with LINE.
+pub const LONGEST_LINE: usize = 4_000;
+/// An allowance of 0 or over this is refused with ALLOW.
+pub const MOST_ALLOWANCE: u64 = 5_000_000;
 
 pub const READ: u64 = 0;
 pub const SHORT: u64 = 1;

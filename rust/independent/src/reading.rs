@@ -6,10 +6,13 @@ use std::rc::Rc;
 
 use crate::report::report_on;
 use crate::searches::Searches;
-use crate::stored::{store, stored_length};
+use crate::stored::{store, stored_length, version};
 use crate::table::{open, Node, Table};
 use crate::ways::{Live, Turns, Ways};
-use crate::{names, Refusal, ALLOW, DEEP, EFFORT, FAIL, LINE, READ, RECORDS, REST, ROOM, WORK};
+use crate::{
+    names, Refusal, ALLOW, DEEP, EFFORT, FAIL, LINE, LONGEST_LINE, MOST_ALLOWANCE, READ, RECORDS,
+    REST, ROOM, WORK,
+};
 
 /// What a reading returns.
 #[derive(Clone, Copy, Debug, PartialEq, Eq)]
@@ -109,10 +112,10 @@ pub fn read_with(
         Ok(table) => table,
         Err(refusal) => return refused(refusal.code, refusal.place),
     };
-    if line.len() > 255 {
+    if line.len() > LONGEST_LINE {
         return refused(LINE, 0);
     }
-    if allowance == 0 || allowance > 1_000_000 {
+    if allowance == 0 || allowance > MOST_ALLOWANCE {
         return refused(ALLOW, 0);
     }
     let formula = 2_048 + 4 * allowance + 2 * table.nodes.len() as u64 * (line.len() as u64 + 1);
@@ -181,10 +184,12 @@ fn conclude(
         Trees::TooMany => return answer(RECORDS, matched, matched, MOST_RECORDS + 1),
         Trees::Listed(trees) => trees[0].clone(),
     };
-    if (room.len() as u64) < stored_length(tree.records) {
+    // The version goes by the line, however little of it is matched.
+    let version = version(reading.line.len() as u64);
+    if (room.len() as u64) < stored_length(version, tree.records) {
         return answer(ROOM, matched, matched, tree.records);
     }
-    store(&tree, room);
+    store(version, &tree, room);
     answer(READ, 0, matched, tree.records)
 }
 
@@ -238,6 +243,17 @@ impl<'a> Reading<'a> {
     /// One application of a node at a position. An error is the refusal of
     /// this visit or of one made while it was open.
     fn visit(&mut self, number: usize, position: usize) -> Result<Outcome, Refusal> {
+        if let Some(kept) = self.begin(number, position)? {
+            return Ok(kept);
+        }
+        let outcome = self.apply(number, position)?;
+        self.open -= 1;
+        self.keep(number, position, &outcome);
+        Ok(outcome)
+    }
+
+    /// Counts a visit and opens it, or gives the kept answer.
+    fn begin(&mut self, number: usize, position: usize) -> Result<Option<Outcome>, Refusal> {
         if self.visits == self.allowance {
             return Err(refused_visit(EFFORT, position));
         }
@@ -245,18 +261,18 @@ impl<'a> Reading<'a> {
             return Err(refused_visit(DEEP, position));
         }
         self.visits += 1;
-        if self.free {
-            if let Some(outcome) = self.kept.get(&(number, position)) {
-                return Ok(outcome.clone());
-            }
+        if let Some(kept) = self.kept.get(&(number, position)) {
+            return Ok(Some(kept.clone()));
         }
         self.open += 1;
-        let outcome = self.apply(number, position)?;
-        self.open -= 1;
+        Ok(None)
+    }
+
+    /// Only free grammars keep anything.
+    fn keep(&mut self, number: usize, position: usize, outcome: &Outcome) {
         if self.free {
             self.kept.insert((number, position), outcome.clone());
         }
-        Ok(outcome)
     }
 
     fn apply(&mut self, number: usize, position: usize) -> Result<Outcome, Refusal> {
@@ -315,33 +331,60 @@ impl<'a> Reading<'a> {
         }
     }
 
+    /// Turn after turn in a loop: a row can be as long as a line, too long for
+    /// recursion.
     fn repetition(
         &mut self,
         itself: usize,
         child: usize,
         position: usize,
     ) -> Result<Outcome, Refusal> {
-        match self.visit(child, position)? {
-            Outcome::Failure => Ok(nothing(position)),
-            // No trees even if the child made some.
-            Outcome::Match { end, .. } if end == position => Ok(nothing(position)),
-            Outcome::Match { end, trees } => {
-                let after = self.turn(itself, end)?;
-                Ok(joined(trees, after))
+        let open = self.open;
+        let mut row = Vec::new();
+        let mut at = position;
+        let last = loop {
+            match self.visit(child, at)? {
+                Outcome::Match { end, trees } if end > at => {
+                    row.push((at, trees));
+                    at = end;
+                }
+                // No trees even if the child matched nothing and made some.
+                _ => break nothing(at),
             }
-        }
+            if let Some(kept) = self.turn(itself, at)? {
+                break kept;
+            }
+        };
+        // All its turns are finished, and the first visit is open as before them.
+        self.open = open;
+        Ok(self.finish_row(itself, row, at, last))
     }
 
-    /// A repetition's own next visit. The one before gives up its place first, so
-    /// that fewer are open than may be: it is never too deep.
-    fn turn(&mut self, itself: usize, position: usize) -> Result<Outcome, Refusal> {
-        if self.ways.turns == Turns::Nested {
-            return self.visit(itself, position);
+    /// Begins a repetition's own next visit. The one before gives up its place
+    /// first, so that fewer are open than may be: it is never too deep.
+    fn turn(&mut self, itself: usize, position: usize) -> Result<Option<Outcome>, Refusal> {
+        if self.ways.turns == Turns::InPlace {
+            self.open -= 1;
         }
-        self.open -= 1;
-        let after = self.visit(itself, position)?;
-        self.open += 1;
-        Ok(after)
+        self.begin(itself, position)
+    }
+
+    /// The answers of a row's visits, from the last, made at `at`, to the first:
+    /// the trees of a turn, then those of the turns after it.
+    fn finish_row(
+        &mut self,
+        itself: usize,
+        row: Vec<(usize, Trees)>,
+        mut at: usize,
+        last: Outcome,
+    ) -> Outcome {
+        let mut outcome = last;
+        for (position, trees) in row.into_iter().rev() {
+            self.keep(itself, at, &outcome);
+            outcome = joined(trees, outcome);
+            at = position;
+        }
+        outcome
     }
 
     /// A use of a rule at a position. In a free grammar, and where the rule does

@@ -1,51 +1,89 @@
 //! The stored reading: how it is written and when it is well formed.
 
 use crate::reading::Tree;
+use crate::LONGEST_LINE;
 
-/// The length of a stored reading: a head of five bytes, five per record.
-pub(crate) fn stored_length(records: u64) -> u64 {
-    5 + 5 * records
+/// Version, total length and record count come before the records.
+const HEAD: usize = 5;
+
+/// The longest line whose positions fit in one byte.
+const LONGEST_OF_VERSION_1: u64 = 255;
+
+/// The version of every stored reading of a line of that length.
+pub fn version(line_length: u64) -> u64 {
+    if line_length <= LONGEST_OF_VERSION_1 {
+        1
+    } else {
+        2
+    }
+}
+
+/// A position takes one byte in version 1 and two in version 2.
+fn width(version: u64) -> usize {
+    version as usize
+}
+
+/// Rule, start, end and number of children.
+fn record_length(version: u64) -> usize {
+    1 + 2 * width(version) + 2
+}
+
+/// The length of a stored reading with so many records.
+pub(crate) fn stored_length(version: u64, records: u64) -> u64 {
+    HEAD as u64 + record_length(version) as u64 * records
 }
 
 /// Writes the stored reading of `tree` at the front of the room, which is
 /// long enough; the rest of the room is not touched.
-pub(crate) fn store(tree: &Tree, room: &mut [u8]) {
+pub(crate) fn store(version: u64, tree: &Tree, room: &mut [u8]) {
     let records = tree.records;
-    let length = stored_length(records);
-    let mut bytes = vec![1];
-    bytes.extend(two_bytes(length));
-    bytes.extend(two_bytes(records));
-    write_records(tree, &mut bytes);
+    let length = stored_length(version, records);
+    let mut bytes = vec![version as u8];
+    write_number(length, 2, &mut bytes);
+    write_number(records, 2, &mut bytes);
+    write_records(tree, width(version), &mut bytes);
     room[..bytes.len()].copy_from_slice(&bytes);
 }
 
-/// Children come before their parent, in order.
+/// Children come before their parent, in order; a position takes `width` bytes.
 ///
 /// A tree that is stored has at most 1,000 records, so it is at most that
 /// deep and plain recursion is safe.
-fn write_records(tree: &Tree, bytes: &mut Vec<u8>) {
+fn write_records(tree: &Tree, width: usize, bytes: &mut Vec<u8>) {
     for child in &tree.children {
-        write_records(child, bytes);
+        write_records(child, width, bytes);
     }
-    bytes.push(tree.rule as u8);
-    bytes.push(tree.start as u8);
-    bytes.push(tree.end as u8);
-    bytes.extend(two_bytes(tree.children.len() as u64));
+    write_number(tree.rule as u64, 1, bytes);
+    write_number(tree.start as u64, width, bytes);
+    write_number(tree.end as u64, width, bytes);
+    write_number(tree.children.len() as u64, 2, bytes);
 }
 
-fn two_bytes(number: u64) -> [u8; 2] {
-    [(number / 256) as u8, (number % 256) as u8]
+/// A number in its lowest `width` bytes, the highest of them first.
+fn write_number(number: u64, width: usize, bytes: &mut Vec<u8>) {
+    let all = number.to_be_bytes();
+    bytes.extend(&all[all.len() - width..]);
+}
+
+/// The number in these bytes, the highest first.
+fn number_in(bytes: &[u8]) -> u64 {
+    let append = |number, &byte| number * 256 + u64::from(byte);
+    bytes.iter().fold(0, append)
 }
 
 /// Whether `stored` is a well formed stored reading for so many rules and a
 /// line of that length.
 pub fn well_formed(stored: &[u8], rules: u64, line_length: u64) -> bool {
-    if stored.len() < 5 || stored[0] != 1 {
+    if line_length > LONGEST_LINE as u64 {
         return false;
     }
-    let written_length = number_at(stored, 1);
-    let records = number_at(stored, 3);
-    if stored.len() as u64 != written_length || written_length != stored_length(records) {
+    let version = version(line_length);
+    if stored.len() < HEAD || u64::from(stored[0]) != version {
+        return false;
+    }
+    let written_length = number_in(&stored[1..3]);
+    let records = number_in(&stored[3..HEAD]);
+    if stored.len() as u64 != written_length || written_length != stored_length(version, records) {
         return false;
     }
     if records == 0 {
@@ -54,24 +92,29 @@ pub fn well_formed(stored: &[u8], rules: u64, line_length: u64) -> bool {
 
     // The spans of the records not yet taken, the newest last.
     let mut untaken: Vec<(u64, u64)> = Vec::new();
-    for record in stored[5..].chunks(5) {
-        let rule = u64::from(record[0]);
-        let start = u64::from(record[1]);
-        let end = u64::from(record[2]);
-        let children = number_at(record, 3) as usize;
+    for record in stored[HEAD..].chunks(record_length(version)) {
+        let [rule, start, end, children] = fields(record, width(version));
         if rule >= rules || start > end || end > line_length {
             return false;
         }
-        if children > untaken.len() {
+        if children > untaken.len() as u64 {
             return false;
         }
-        let taken = untaken.split_off(untaken.len() - children);
+        let taken = untaken.split_off(untaken.len() - children as usize);
         if !in_order_inside(&taken, start, end) {
             return false;
         }
         untaken.push((start, end));
     }
     untaken.len() == 1
+}
+
+/// Rule, start, end and number of children of a record.
+fn fields(record: &[u8], width: usize) -> [u64; 4] {
+    let (rule, rest) = record.split_at(1);
+    let (start, rest) = rest.split_at(width);
+    let (end, children) = rest.split_at(width);
+    [rule, start, end, children].map(number_in)
 }
 
 /// Whether the spans lie in order inside `start`..`end` without overlap.
@@ -84,8 +127,4 @@ fn in_order_inside(spans: &[(u64, u64)], start: u64, end: u64) -> bool {
         free_from = child_end;
     }
     free_from <= end
-}
-
-fn number_at(bytes: &[u8], at: usize) -> u64 {
-    u64::from(bytes[at]) * 256 + u64::from(bytes[at + 1])
 }

@@ -23,9 +23,9 @@ pub enum Code {
     Kind = 6,
     /// A node's field is not as its kind asks. Place: the node.
     Field = 7,
-    /// Line over 255 bytes.
+    /// Line over 4,000 bytes.
     Line = 8,
-    /// Allowance 0 or over 1,000,000.
+    /// Allowance 0 or over 5,000,000.
     Allow = 9,
     /// Fewer working numbers than the formula asks.
     Work = 10,
@@ -39,7 +39,7 @@ pub enum Code {
     Rest = 14,
     /// The tree has over 1,000 records. Place: matched.
     Records = 15,
-    /// Room under the stored length. Place: matched.
+    /// Room under the [`stored_length`](crate::stored_length). Place: matched.
     Room = 16,
     /// A repetition's child may be empty. Place: the first such repetition.
     Loop = 17,

@@ -71,20 +71,22 @@ pub use code::Code;
 pub use marked::Marked;
 #[cfg(feature = "proved")]
 pub use proved::{check, read_prefix, read_prefix_with, read_whole, read_whole_with, report};
-pub use reading::{stored_length, Reading, Record, Tree};
+pub use reading::{stored_length, stored_version, Reading, Record, Tree};
 
 /// The most nodes of a table.
 pub const MOST_NODES: usize = 512;
 /// The most rules of a table.
 pub const MOST_RULES: usize = 64;
 /// The longest line.
-pub const MOST_LINE: usize = 255;
+pub const MOST_LINE: usize = 4_000;
+/// The longest line whose stored reading is of version 1.
+pub const MOST_LINE_OF_VERSION_1: usize = 255;
 /// The largest allowance.
-pub const MOST_ALLOWANCE: u64 = 1_000_000;
+pub const MOST_ALLOWANCE: u64 = 5_000_000;
 /// The most records of a stored reading.
 pub const MOST_RECORDS: usize = 1_000;
 /// Room for every stored reading.
-pub const MOST_STORED: usize = stored_length(MOST_RECORDS);
+pub const MOST_STORED: usize = stored_length(MOST_RECORDS, MOST_LINE);
 
 /// The working numbers that a reading asks for, with a table of so many nodes.
 pub const fn work_needed(allowance: u64, nodes: usize, line_length: usize) -> u64 {

@@ -131,7 +131,11 @@ mod tests {
     fn just_past_the_end() {
         assert_eq!(rows(&fail(2), "7+"), "7+\n  ^");
         assert_eq!(rows(&fail(0), ""), "\n^");
-        assert_eq!(rows(&fail(255), [b'a'; 255]).len(), 255 + 1 + 256);
+        for length in [255, 256, 4_000] {
+            let line = "a".repeat(length);
+            let below = " ".repeat(length);
+            assert_eq!(rows(&fail(length), &line), format!("{line}\n{below}^"));
+        }
     }
 
     #[test]

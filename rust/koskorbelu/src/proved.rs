@@ -26,6 +26,9 @@ pub fn report(table: &[u8]) -> Result<Report, Refusal> {
 }
 
 /// How far the sheet matches from the line's beginning.
+///
+/// It lends as many working numbers as are [needed](work_needed), four bytes each:
+/// with the largest allowance that is 80 MB and more.
 pub fn read_prefix(table: &[u8], line: &[u8], allowance: u64) -> Answer<Vec<u8>> {
     read_alone(table, line, allowance, false)
 }
@@ -49,7 +52,7 @@ pub fn read_prefix_with<'room>(
     room: &'room mut [u8],
 ) -> Answer<&'room [u8]> {
     let numbers = face::read(table, line, allowance, work, room, false);
-    answer(numbers, |length| &room[..length])
+    answer(numbers, line, |length| &room[..length])
 }
 
 /// [`read_whole`] with lent working numbers and room, as [`read_prefix_with`].
@@ -61,7 +64,7 @@ pub fn read_whole_with<'room>(
     room: &'room mut [u8],
 ) -> Answer<&'room [u8]> {
     let numbers = face::read(table, line, allowance, work, room, true);
-    answer(numbers, |length| &room[..length])
+    answer(numbers, line, |length| &room[..length])
 }
 
 /// A reading with buffers of its own.
@@ -69,7 +72,7 @@ fn read_alone(table: &[u8], line: &[u8], allowance: u64, whole: bool) -> Answer<
     let mut work = vec![0; enough(table, line, allowance)];
     let mut room = vec![0; MOST_STORED];
     let numbers = face::read(table, line, allowance, &mut work, &mut room, whole);
-    answer(numbers, |length| {
+    answer(numbers, line, |length| {
         room.truncate(length);
         room
     })
@@ -100,9 +103,11 @@ fn accepted(code: u64, place: u64) -> Result<(), Refusal> {
     }
 }
 
-/// Unpacks the numbers of a reading; `front` gives that much of the room.
+/// Unpacks the numbers of a reading of the line; `front` gives that much of the
+/// room.
 fn answer<Bytes: AsRef<[u8]>>(
     [code, place, matched, visits, records, furthest]: [u64; 6],
+    line: &[u8],
     front: impl FnOnce(usize) -> Bytes,
 ) -> Answer<Bytes> {
     let (matched, records) = (matched as usize, records as usize);
@@ -112,7 +117,7 @@ fn answer<Bytes: AsRef<[u8]>>(
             matched,
             visits,
             furthest,
-            reading: Reading::new(front(stored_length(records))),
+            reading: Reading::new(front(stored_length(records, line.len()))),
         },
         code => Answer::Refused {
             code,

@@ -2,7 +2,7 @@
 
 use crate::report::masks;
 use crate::sheet::{open, Node, Sheet, CHOICE, EMPTY, MOST_NODES, NOT, RANGE, RULE, SEQUENCE};
-use crate::store::{store, stored_length};
+use crate::store::{store, stored_length, version};
 use crate::{ALLOW, DEEP, EFFORT, FAIL, LINE, READ, RECORDS, REST, ROOM, WORK};
 
 #[derive(Clone, Copy, Debug, PartialEq, Eq)]
@@ -29,6 +29,8 @@ impl Answer {
     }
 }
 
+const MOST_LINE: usize = 4_000;
+const MOST_ALLOWANCE: u64 = 5_000_000;
 const MOST_OPEN: u32 = 512;
 
 /// The kind that a use of a left-recursive rule gets in a grammar that isn't
@@ -46,9 +48,12 @@ const NODE_NUMBERS: usize = MOST_NODES;
 const LIVE_NUMBERS: usize = 3 * 512;
 
 /// An end no line has: the visit failed.
-const FAILED: u32 = 256;
+const FAILED: u32 = MOST_LINE as u32 + 1;
 /// An end no line has: the visit, or one below it, was refused.
-const STOPPED: u32 = 257;
+const STOPPED: u32 = FAILED + 1;
+
+// Two positions share a number, and so do a rule and a position.
+const _: () = assert!(MOST_LINE <= u16::MAX as usize);
 
 /// The answer of a visit: an end, or one of the two marks above, and the
 /// handle of its trees.
@@ -88,9 +93,9 @@ pub(crate) const NONE: u32 = 0;
 /// The first number of a cell that joins two lists.
 pub(crate) const JOIN: u32 = u32::MAX;
 
-/// A cell is a tree: rule, start and end in one number, the handle of its
-/// children, 0, counts; or a joint: `JOIN`, two handles, counts. Counts are
-/// the records in the upper and the trees in the lower sixteen bits.
+/// A cell is a tree: the rule, the handle of its children, its span, counts;
+/// or a joint: `JOIN`, two handles, counts. A span is the start in the upper
+/// and the end in the lower sixteen bits; so are counts, of records and trees.
 pub(crate) type Cell = [u32; 4];
 
 /// Rule and position, the end held, the trees held.
@@ -112,10 +117,10 @@ pub fn read(
         Err((code, place)) => return refused(code, place),
     };
     let sheet = opened.sheet;
-    if line.len() > 255 {
+    if line.len() > MOST_LINE {
         return refused(LINE, 0);
     }
-    if allowance == 0 || allowance > 1_000_000 {
+    if allowance == 0 || allowance > MOST_ALLOWANCE {
         return refused(ALLOW, 0);
     }
     let n = sheet.nodes.len();
@@ -138,7 +143,6 @@ pub fn read(
         sheet,
         nodes: &nodes[..n],
         line,
-        positions: line.len() + 1,
         left: allowance as u32,
         live: live.as_chunks_mut().0,
         live_uses: 0,
@@ -188,8 +192,6 @@ struct Reading<'a> {
     sheet: Sheet<'a>,
     nodes: &'a [u32],
     line: &'a [u8],
-    /// Positions in the line, the end included.
-    positions: usize,
     /// Visits left of the allowance.
     left: u32,
     live: &'a mut [Live],
@@ -230,10 +232,12 @@ impl Reading<'_> {
         if records == MANY {
             return answer(RECORDS, matched, matched, records.into());
         }
-        let Some(room) = room.get_mut(..stored_length(records)) else {
+        let version = version(self.line.len());
+        let Some(room) = room.get_mut(..stored_length(version, records)) else {
             return answer(ROOM, matched, matched, records.into());
         };
         store(
+            version,
             self.cells,
             outcome.trees,
             records,
@@ -252,7 +256,7 @@ impl Reading<'_> {
             return self.refuse(DEEP, position);
         }
         self.left -= 1;
-        let place = number as usize * self.positions + position as usize;
+        let place = self.place(number, position);
         if FREE {
             let [end, trees] = self.kept[place];
             if end != 0 {
@@ -284,7 +288,7 @@ impl Reading<'_> {
                     return before;
                 }
                 let after = self.visit::<FREE>(node.b(), before.end, open);
-                self.joined(before, after)
+                self.joined(before.trees, after)
             }
             CHOICE => {
                 let outcome = self.visit::<FREE>(node.a(), position, open);
@@ -317,7 +321,7 @@ impl Reading<'_> {
             if turn.end == FAILED || turn.end == read.end {
                 return read;
             }
-            read = self.joined(read, turn);
+            read = self.joined(read.trees, turn);
             if self.left == 0 {
                 return self.refuse(EFFORT, read.end);
             }
@@ -327,11 +331,11 @@ impl Reading<'_> {
 
     /// A repetition in a free grammar: when the row ends it is gone back over,
     /// to keep each pair. While a pair of the row waits for its answer, it
-    /// holds where the visit before it was made.
+    /// holds the place of the pair before it.
     #[inline(never)]
     fn kept_row(&mut self, number: u32, child: u32, position: u32, open: u32) -> Outcome {
-        let own = number as usize * self.positions;
-        let mut at = position;
+        let first = self.place(number, position);
+        let (mut at, mut place) = (position, first);
         let mut answer = loop {
             let turn = self.visit::<true>(child, at, open);
             if turn.end == STOPPED {
@@ -344,28 +348,36 @@ impl Reading<'_> {
                 return self.refuse(EFFORT, turn.end);
             }
             self.left -= 1;
-            let next = &mut self.kept[own + turn.end as usize];
+            let after = self.place(number, turn.end);
+            let next = &mut self.kept[after];
             let [end, trees] = *next;
             if end != 0 {
                 let rest = Outcome {
                     end: end - 1,
                     trees,
                 };
-                break self.joined(turn, rest);
+                break self.joined(turn.trees, rest);
             }
-            next[1] = at;
-            at = turn.end;
+            next[1] = place as u32;
+            (at, place) = (turn.end, after);
         };
-        let below = child as usize * self.positions;
-        while at != position {
-            let next = &mut self.kept[own + at as usize];
-            let before = next[1];
+        // At one position the child's place is so far before the repetition's.
+        let down = (number - child) as usize;
+        while place != first {
+            let next = &mut self.kept[place];
+            place = next[1] as usize;
             *next = [answer.end + 1, answer.trees];
-            let [_, trees] = self.kept[below + before as usize];
-            answer = self.joined(Outcome { end: at, trees }, answer);
-            at = before;
+            let [_, trees] = self.kept[place - down];
+            answer = self.joined(trees, answer);
         }
         answer
+    }
+
+    /// Where the answer of a pair is kept: those of a position stand together,
+    /// so that a long line is gone along in memory too.
+    #[inline]
+    fn place(&self, number: u32, position: u32) -> usize {
+        position as usize * self.nodes.len() + number as usize
     }
 
     #[inline(always)]
@@ -404,7 +416,7 @@ impl Reading<'_> {
                 return Outcome { end, trees };
             }
             // Positions never fall from older to newer, so no older one is here.
-            if live & 0xFF != position {
+            if live & 0xFFFF != position {
                 break;
             }
         }
@@ -437,31 +449,31 @@ impl Reading<'_> {
     fn planted(&mut self, rule: u32, start: u32, root: Outcome) -> Outcome {
         let counts = self.counts(root.trees) >> 16;
         let records = (counts + 1).min(MANY);
-        let named = rule << 16 | start << 8 | root.end;
+        let span = start << 16 | root.end;
         Outcome {
             end: root.end,
-            trees: self.cell([named, root.trees, NONE, records << 16 | 1]),
+            trees: self.cell([rule, root.trees, span, records << 16 | 1]),
         }
     }
 
-    /// `after`, with the trees of `before` in front if it matches.
+    /// `after`, with the trees `before` it in front if it matches.
     #[inline]
-    fn joined(&mut self, before: Outcome, after: Outcome) -> Outcome {
-        if !after.matches() || before.trees == NONE {
+    fn joined(&mut self, before: u32, after: Outcome) -> Outcome {
+        if !after.matches() || before == NONE {
             return after;
         }
         if after.trees == NONE {
             return Outcome {
                 end: after.end,
-                trees: before.trees,
+                trees: before,
             };
         }
-        let (left, right) = (self.counts(before.trees), self.counts(after.trees));
+        let (left, right) = (self.counts(before), self.counts(after.trees));
         let records = ((left >> 16) + (right >> 16)).min(MANY);
         let trees = ((left & 0xFFFF) + (right & 0xFFFF)).min(MANY);
         Outcome {
             end: after.end,
-            trees: self.cell([JOIN, before.trees, after.trees, records << 16 | trees]),
+            trees: self.cell([JOIN, before, after.trees, records << 16 | trees]),
         }
     }
 
@@ -484,5 +496,5 @@ impl Reading<'_> {
 
 #[inline]
 fn pair(rule: u32, position: u32) -> u32 {
-    rule << 8 | position
+    rule << 16 | position
 }

@@ -153,3 +153,38 @@ pub fn sum() -> Sheet {
     }
     sheet
 }
+
+/// `00:00 0,123;00:30 0,520;` is a meter's log, in kWh for each half hour.
+///
+/// ```text
+/// Log     <- Reading Reading*
+/// Reading <- Time ' ' Amount ';'
+/// Time    <- ('2' [0-3] / [0-1] [0-9]) ':' ('0' / '3') '0'
+/// Amount  <- [0-9] [0-9]* ',' [0-9] [0-9] [0-9]
+/// ```
+pub fn meter_log() -> Sheet {
+    let mut sheet = Sheet::new();
+    let (reading, time, amount) = (sheet.rule(1), sheet.rule(2), sheet.rule(3));
+    let log = sheet.one_or_more(reading);
+    let blank = sheet.byte(b' ');
+    let semicolon = sheet.byte(b';');
+    let reading_root = sheet.in_order(&[time, blank, amount, semicolon]);
+    let digit = sheet.range(b'0', b'9');
+    let two = sheet.byte(b'2');
+    let to_three = sheet.range(b'0', b'3');
+    let late = sheet.sequence(two, to_three);
+    let to_one = sheet.range(b'0', b'1');
+    let early = sheet.sequence(to_one, digit);
+    let hour = sheet.choice(late, early);
+    let colon = sheet.byte(b':');
+    let (zero, three) = (sheet.byte(b'0'), sheet.byte(b'3'));
+    let full_or_half = sheet.choice(zero, three);
+    let time_root = sheet.in_order(&[hour, colon, full_or_half, zero]);
+    let more = sheet.repetition(digit);
+    let comma = sheet.byte(b',');
+    let amount_root = sheet.in_order(&[digit, more, comma, digit, digit, digit]);
+    for root in [log, reading_root, time_root, amount_root] {
+        sheet.root(root);
+    }
+    sheet
+}

@@ -5,10 +5,12 @@
 
 mod class;
 mod fault;
+mod log;
 mod sheet;
 
-pub use class::{decimal_comma, kilowatts, sheet_a, sheet_b, sum, thousands};
+pub use class::{decimal_comma, kilowatts, meter_log, sheet_a, sheet_b, sum, thousands};
 pub use fault::Fault;
+pub use log::{log_of_length, meter_lines, READING, READINGS_OF_A_DAY};
 pub use sheet::{Node, Sheet};
 
 /// The most nodes of a sheet.
@@ -16,8 +18,16 @@ pub const MOST_NODES: usize = 512;
 /// The most rules of a sheet.
 pub const MOST_RULES: usize = 64;
 
+/// The folder of `examples/` whose lines are long.
+pub const METER_LOG: &str = "meter-log";
+
 /// Each folder of `examples/` with its sheet.
-pub fn all() -> [(&'static str, Sheet); 5] {
+pub fn all() -> Vec<(&'static str, Sheet)> {
+    class().into_iter().chain(logs()).collect()
+}
+
+/// Those whose lines the classroom program reads, with what it lends.
+pub fn class() -> [(&'static str, Sheet); 5] {
     [
         ("one-digit", sheet_b()),
         ("decimal-comma", decimal_comma()),
@@ -25,4 +35,10 @@ pub fn all() -> [(&'static str, Sheet); 5] {
         ("kilowatts", kilowatts()),
         ("sum", sum()),
     ]
+}
+
+/// Those whose lines are long, and are lent what they need: the example
+/// `read_lines` of `rust/koskorbelu` reads them.
+pub fn logs() -> [(&'static str, Sheet); 1] {
+    [(METER_LOG, meter_log())]
 }

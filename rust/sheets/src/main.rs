@@ -1,6 +1,9 @@
 //! `sheets EXAMPLES` writes the table file class.gram into each folder of
-//! EXAMPLES. The same sources give the same bytes every time.
+//! EXAMPLES, and the long lines of meter-log. The same sources give the same
+//! bytes every time.
 
+use std::fs;
+use std::io;
 use std::path::Path;
 use std::process::ExitCode;
 
@@ -10,12 +13,20 @@ fn main() -> ExitCode {
         eprintln!("usage: sheets EXAMPLES");
         return ExitCode::FAILURE;
     };
-    for (folder, sheet) in sheets::all() {
-        let path = Path::new(examples).join(folder).join("class.gram");
-        if let Err(error) = sheet.write(path) {
+    match write(Path::new(examples)) {
+        Ok(()) => ExitCode::SUCCESS,
+        Err(error) => {
             eprintln!("{error}");
-            return ExitCode::FAILURE;
+            ExitCode::FAILURE
         }
     }
-    ExitCode::SUCCESS
+}
+
+fn write(examples: &Path) -> io::Result<()> {
+    for (folder, sheet) in sheets::all() {
+        sheet.write(examples.join(folder).join("class.gram"))?;
+    }
+    let lines = sheets::meter_lines().into_iter().map(|line| line + "\n");
+    let path = examples.join(sheets::METER_LOG).join("lines.txt");
+    fs::write(path, lines.collect::<String>())
 }

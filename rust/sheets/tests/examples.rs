@@ -1,15 +1,37 @@
 //! The files of `examples/` are what they should be: each table file is that
-//! of its sheet, and the independent reader gives the expected answers.
+//! of its sheet, the long lines are those that `sheets` writes, and the
+//! independent reader gives the expected answers.
 
 use std::fs;
 use std::path::{Path, PathBuf};
 
 use sheets::Sheet;
 
-/// What the classroom program lends for each line.
-const ALLOWANCE: u64 = 2_500;
-const WORK: usize = 16_384;
-const ROOM: usize = 5_005;
+/// What is lent for a line.
+struct Lent {
+    allowance: u64,
+    work: usize,
+    room: usize,
+}
+
+/// By the classroom program, for every line.
+const BY_THE_PROGRAM: Lent = Lent {
+    allowance: 2_500,
+    work: 16_384,
+    room: 5_005,
+};
+
+/// By the example `read_lines`, by a sheet without left recursion: enough
+/// never to be refused for effort, and room for a thousand records.
+fn by_read_lines(sheet: &Sheet, line: &str) -> Lent {
+    let pairs = sheet.nodes.len() * (line.len() + 1);
+    let allowance = 2 * pairs + 1;
+    Lent {
+        allowance: allowance as u64,
+        work: 2_048 + 4 * allowance + 2 * pairs,
+        room: 7_005,
+    }
+}
 
 fn file(folder: &str, name: &str) -> PathBuf {
     let examples = Path::new(env!("CARGO_MANIFEST_DIR")).join("../../examples");
@@ -22,11 +44,25 @@ fn text(folder: &str, name: &str) -> String {
 }
 
 /// The answer as the classroom program prints it, and the room.
-fn answer(table: &[u8], line: &str) -> (String, Vec<u8>) {
-    let (mut work, mut room) = (vec![0; WORK], vec![0; ROOM]);
+fn answer_with(lent: Lent, table: &[u8], line: &str) -> (String, Vec<u8>) {
+    let (mut work, mut room) = (vec![0; lent.work], vec![0; lent.room]);
     let line = line.as_bytes();
-    let answer = independent::read(table, line, ALLOWANCE, &mut work, &mut room, true);
+    let answer = independent::read(table, line, lent.allowance, &mut work, &mut room, true);
     (answer.to_string(), room)
+}
+
+fn answer(table: &[u8], line: &str) -> (String, Vec<u8>) {
+    answer_with(BY_THE_PROGRAM, table, line)
+}
+
+/// The answers to the lines of a folder, one a line.
+fn answers(folder: &str, sheet: &Sheet, lent: fn(&Sheet, &str) -> Lent) -> String {
+    let table = sheet.bytes();
+    let lines = text(folder, "lines.txt");
+    let answers = lines
+        .lines()
+        .map(|line| answer_with(lent(sheet, line), &table, line).0 + "\n");
+    answers.collect()
 }
 
 #[test]
@@ -39,18 +75,44 @@ fn table_files_are_those_of_the_sheets() {
 }
 
 #[test]
+fn long_lines_are_those_that_are_written() {
+    let lines = sheets::meter_lines().into_iter().map(|line| line + "\n");
+    let written = text(sheets::METER_LOG, "lines.txt");
+    assert!(written == lines.collect::<String>(), "run sheets");
+}
+
+#[test]
 fn expected_answers() {
-    for (folder, sheet) in sheets::all() {
-        let table = sheet.bytes();
-        let answers: String = text(folder, "lines.txt")
-            .lines()
-            .map(|line| answer(&table, line).0 + "\n")
-            .collect();
+    for (folder, sheet) in sheets::class() {
+        let answers = answers(folder, &sheet, |_, _| BY_THE_PROGRAM);
+        assert_eq!(answers, text(folder, "expected.txt"), "{folder}");
+    }
+    for (folder, sheet) in sheets::logs() {
+        let answers = answers(folder, &sheet, by_read_lines);
         assert_eq!(answers, text(folder, "expected.txt"), "{folder}");
     }
 }
 
-/// Rule, start and end of each record, in stored order.
+/// It reads five readings and lends too little for more.
+#[test]
+fn the_program_turns_logs_away() {
+    let answers = answers(sheets::METER_LOG, &sheets::meter_log(), |_, _| {
+        BY_THE_PROGRAM
+    });
+    let expected = text(sheets::METER_LOG, "expected.txt");
+    assert_eq!(answers.lines().next(), expected.lines().next());
+    let lengths = sheets::meter_lines().into_iter().map(|line| line.len());
+    for (answer, length) in answers.lines().zip(lengths).skip(1) {
+        let turned_away = if length > 4_000 { "LINE" } else { "WORK" };
+        assert_eq!(answer, format!("{turned_away} 0 0"), "{length} bytes");
+    }
+    let readings = |count| sheets::log_of_length(count * sheets::READING);
+    let table = sheets::meter_log().bytes();
+    assert_eq!(answer(&table, &readings(5)).0, "READ 60 182 16");
+    assert_eq!(answer(&table, &readings(6)).0, "WORK 0 0");
+}
+
+/// Rule, start and end of each record of a short line, in stored order.
 fn records(sheet: Sheet, line: &str) -> Vec<(u8, u8, u8)> {
     let (printed, room) = answer(&sheet.bytes(), line);
     assert!(printed.starts_with("READ "), "{line}: {printed}");

@@ -1,9 +1,10 @@
 -- `put_head` writes the bytes of the head, number after number.
-use native.Mathlib.Omega.{arith}
+use mathlib.Core.Path.{ap, _∙_}
+use lib.Seq.{sets}
 use borrow.Author.Needs.{needs}
-use Rattle.stored.proofs.put_head.Tie as tie
-use Rattle.stored.proofs.Bytes.{head-put, small-length}
 use Rattle.stored.proofs.put_head.Statement.{statement}
+use Rattle.stored.proofs.put_head.Tie as tie
+use Rattle.stored.proofs.Bytes.{head-put}
 
 cast-version : tie.Need-cast-version
 cast-version c = search needs
@@ -11,21 +12,8 @@ cast-version c = search needs
 put-number-requires : tie.Need-put-number-requires
 put-number-requires c κs = search needs
 
-mul-put-number : tie.Need-mul-put-number
-mul-put-number c = search needs
-
-add-put-number : tie.Need-add-put-number
-add-put-number c = search needs
-
-mul-put-number-2 : tie.Need-mul-put-number-2
-mul-put-number-2 c =
-    let start = c .before .before .before .before .before .before in
-    record { fits = omega (arith, small-length (start .args .width) (start .args .records) (omega arith) (omega arith)) }
-
-add-put-number-2 : tie.Need-add-put-number-2
-add-put-number-2 c =
-    let start = c .before .before .before .before .before .before in
-    record { fits = omega (arith, small-length (start .args .width) (start .args .records) (omega arith) (omega arith)) }
+stored-length-requires : tie.Need-stored-length-requires
+stored-length-requires c κs = search needs
 
 put-number-requires-2 : tie.Need-put-number-requires-2
 put-number-requires-2 c κs = search needs
@@ -38,11 +26,12 @@ same-length c = search needs
 
 returns : tie.Need-returns
 returns c =
-    let start = c .before .before .before .before .before .before .before .before .before .before .before .before .before in
-    let put-number = c .before .before .before .before .before .before .before .before .before .before .put-number in
-    let put-number2 = c .before .before .before .before .before .before .put-number2 in
-    let put-number3 = c .before .before .put-number3 in
-    head-put (start .args .room .now) (start .args .width) (start .args .records) _ _ _ (put-number .ensures) (put-number2 .ensures) (put-number3 .ensures)
+    let at-start = (c .before .before .before .before .before .before .before .before .before .before .before .before .before .before) in
+    let at-put-number = (c .before .before .before .before .before .before .before .before .before .before .before .put-number) in
+    let at-stored-length = (c .before .before .before .before .before .before .before .stored-length) in
+    let at-put-number2 = (c .before .before .before .before .before .before .put-number2) in
+    let at-put-number3 = (c .before .before .put-number3) in
+    head-put (at-start .args .room .now) (at-start .args .width) (at-start .args .records) _ _ _ (at-put-number .ensures) (rw (← at-stored-length .ensures) (at-put-number2 .ensures)) (at-put-number3 .ensures)
 
 pub put-head-spec : {M : Type 1} → statement M
 put-head-spec =
@@ -50,10 +39,7 @@ put-head-spec =
     (tie.spec
     cast-version
     put-number-requires
-    mul-put-number
-    add-put-number
-    mul-put-number-2
-    add-put-number-2
+    stored-length-requires
     put-number-requires-2
     put-number-requires-3
     same-length

@@ -1,15 +1,19 @@
 //! The cases, by what they are about.
 
+use independent::LONGEST_LINE;
 use sheets::{sheet_a, sheet_b, Sheet};
 
 use super::{Case, Grammar, Input};
 use crate::deep::{padded, right_recursive};
+use crate::furthest;
+use crate::long_lines::over_and_over;
 use crate::maker::Maker;
 use crate::nothing::{repeated, Leaf, Place, PLACES, WAYS};
 use crate::reach::not_free;
 use crate::records::{exactly, four_a_byte};
+use crate::rows::row_of_names;
 use crate::soup::drawn_line;
-use crate::textbook::examples;
+use crate::textbook::{both_sides, examples};
 
 /// The most bytes that a table has.
 const MOST_TABLE: usize = 2_695;
@@ -28,6 +32,7 @@ pub fn all() -> Vec<Case> {
     working_numbers(&mut cases);
     records(&mut cases);
     lengths_of_lines(&mut cases);
+    long_lines(&mut cases);
     many_lines(&mut cases);
     ends_of_lines(&mut cases);
     any_bytes(&mut cases);
@@ -352,26 +357,55 @@ fn records(cases: &mut Cases) {
     cases.read("four records a byte", &four_a_byte(), &all_a(245..=256));
 }
 
-/// S <- 'a'*
-fn as_many_a() -> Sheet {
-    let mut sheet = Sheet::new();
-    let a = sheet.byte(b'a');
-    let all = sheet.repetition(a);
-    sheet.root(all);
-    sheet
+/// The longest lines, about what is read at one time, and far longer. By S <- 'a'* lines
+/// of up to 1,083 bytes are read: two nodes ask for that many working numbers.
+fn lengths_of_lines(cases: &mut Cases) {
+    let short = [0, 1, 254, 255, 256, 257, 511, 512, 1_083, 1_084];
+    let longest = [LONGEST_LINE - 1, LONGEST_LINE, LONGEST_LINE + 1];
+    let at_once = [AT_ONCE - 1, AT_ONCE, AT_ONCE + 1, 2 * AT_ONCE, 100_000];
+    let lengths = [short.as_slice(), &longest, &at_once].concat();
+    let sheet = furthest::all();
+    for &length in &lengths {
+        let lines = all_a([length]);
+        cases.read(&format!("a line of {length}"), &sheet, &lines);
+        let last = lines[0].clone();
+        cases.input(&format!("a last line of {length}"), &sheet, last);
+    }
+    cases.read("lines of all lengths", &sheet, &all_a(lengths));
 }
 
-fn lengths_of_lines(cases: &mut Cases) {
-    let lengths = [
-        0, 1, 254, 255, 256, 257, 511, 512, 4_095, 4_096, 4_097, 100_000,
-    ];
-    for length in lengths {
-        let lines = all_a([length]);
-        cases.read(&format!("a line of {length}"), &as_many_a(), &lines);
-        let last = lines[0].clone();
-        cases.input(&format!("a last line of {length}"), &as_many_a(), last);
-    }
-    cases.read("lines of all lengths", &as_many_a(), &all_a(lengths));
+/// Lines that give version 2, by sheets with so few nodes that there are enough working
+/// numbers: nodes times one more than the bytes are at most 2,168.
+fn long_lines(cases: &mut Cases) {
+    // One node, which takes one byte.
+    let mut one = Sheet::new();
+    let a = one.byte(b'a');
+    one.root(a);
+    cases.read("one byte of many", &one, &all_a([256, 2_167, 2_168]));
+    let sums = [255, 256, 257, 259, 305, 307, 308, 309].map(|length| over_and_over("7+", length));
+    cases.read("long sums", &sheet_a(), &sums);
+    let deep = [253, 255, 257, 259, 359, 361].map(|length| over_and_over("1+", length));
+    cases.read("long sums, too deep", &both_sides(), &deep);
+    let turns = [255, 256, 712, 713, 714, 715, 721, 722];
+    cases.read("a record a byte", &row_of_names(1), &all_a(turns));
+    let turns = [237, 238, 255, 256, 332, 333, 334, 432, 433];
+    cases.read("three records a byte", &row_of_names(3), &all_a(turns));
+    let turns = [255, 256, 290, 300, 305, 306, 307, 308, 309];
+    cases.read("a row four times", &row_four_times(), &all_a(turns));
+    let mut left = all_a([256, 300, 1_082]);
+    left.iter_mut().for_each(|line| line.push(b'b'));
+    cases.read("a long row and a byte", &furthest::all(), &left);
+}
+
+/// S <- R S 'b' / R, where R is 'a'*: two attempts, and the row is read twice in each.
+fn row_four_times() -> Sheet {
+    let mut sheet = Sheet::new();
+    let (a, b, s) = (sheet.byte(b'a'), sheet.byte(b'b'), sheet.rule(0));
+    let row = sheet.repetition(a);
+    let longer = sheet.in_order(&[row, s, b]);
+    let root = sheet.choice(longer, row);
+    sheet.root(root);
+    sheet
 }
 
 /// More than is read, and more than is printed, at one time.
@@ -465,6 +499,7 @@ fn failures(cases: &mut Cases) {
 #[cfg(test)]
 mod tests {
     use super::*;
+    use crate::program::NUMBERS;
 
     fn printed(case: &Case) -> String {
         String::from_utf8(case.expected().printed).unwrap()
@@ -479,7 +514,7 @@ mod tests {
     fn visits_are_as_many_as_said() {
         for visits in 10..60 {
             let table = reading_in(visits).bytes();
-            let (mut work, mut room) = (vec![0; 16_384], vec![0; 10]);
+            let (mut work, mut room) = (vec![0; NUMBERS], vec![0; 10]);
             let answer = independent::read(&table, b"", 100, &mut work, &mut room, true);
             assert_eq!((answer.code, answer.visits), (0, visits));
         }
@@ -505,16 +540,59 @@ mod tests {
     fn places() {
         let all: String = all().iter().map(printed).collect();
         for name in [
-            "ROOT", "KIND", "FIELD", "LOOP", "EFFORT", "DEEP", "REST", "RECORDS", "READ",
+            "ROOT", "KIND", "FIELD", "LOOP", "EFFORT", "DEEP", "REST", "RECORDS", "ROOM", "READ",
         ] {
-            let mut places: Vec<&str> = all
-                .lines()
-                .filter_map(|line| line.strip_prefix(name)?.strip_prefix(' '))
-                .filter_map(|numbers| numbers.split(' ').next())
-                .collect();
+            let mut places = places_of(name, &all);
             places.sort_unstable();
             places.dedup();
             assert!(places.len() > 2, "{name}: {places:?}");
+        }
+        for name in ["EFFORT", "DEEP", "REST", "RECORDS", "ROOM", "READ"] {
+            let far = places_of(name, &all).into_iter().max();
+            assert!(far > Some(255), "{name}: {far:?}");
+        }
+    }
+
+    /// The first numbers of the lines with this name.
+    fn places_of(name: &str, printed: &str) -> Vec<u64> {
+        let numbers = |line: &str| {
+            line.strip_prefix(name)?
+                .strip_prefix(' ')?
+                .split(' ')
+                .next()?
+                .parse()
+                .ok()
+        };
+        printed.lines().filter_map(numbers).collect()
+    }
+
+    /// 5,005 bytes hold 1,000 records of version 1, and 714 of version 2.
+    #[test]
+    fn the_edges_of_the_room() {
+        let all = all();
+        let one = printed(named(&all, "a record a byte"));
+        let lines: Vec<&str> = one.lines().collect();
+        assert_eq!(lines[3], "READ 713 2142 714");
+        assert_eq!(lines[4..6], ["ROOM 714 2145", "ROOM 715 2148"]);
+        assert_eq!(lines[6..], ["ROOM 721 2166", "WORK 0 0"]);
+        let three = printed(named(&all, "three records a byte"));
+        let names: Vec<&str> = three
+            .lines()
+            .filter_map(|line| line.split(' ').next())
+            .collect();
+        let expected = "READ READ READ ROOM ROOM ROOM RECORDS RECORDS WORK";
+        assert_eq!(names.join(" "), expected);
+    }
+
+    #[test]
+    fn the_edges_of_a_line() {
+        let all = all();
+        let answer = |length: usize| printed(named(&all, &format!("a line of {length}")));
+        assert_eq!(answer(1_083), "READ 1083 2168 1\n");
+        assert_eq!(answer(1_084), "WORK 0 0\n");
+        assert_eq!(answer(4_000), "WORK 0 0\n");
+        for length in [4_001, 4_096, 100_000] {
+            assert_eq!(answer(length), "LINE 0 0\n");
         }
     }
 

@@ -1,5 +1,7 @@
 //! The furthest place of the line that a reading looks at.
 
+use sheets::Sheet;
+
 use super::{nothing_lent, prefix, sheet, whole, Page};
 
 /// Sheets on which ranges are visited beyond the match, short of it, or not.
@@ -100,10 +102,9 @@ fn few_ranges(page: &mut Page) {
     page.reading("S <- !() on ab", &never, b"ab", prefix(2_500));
 }
 
-/// The line's end is looked at before the reading gets too deep.
-fn too_deep(page: &mut Page) {
-    // S <- !('a'* 'b') 'a' S
-    let table = sheet(
+/// S <- !('a'* 'b') 'a' S
+pub(super) fn looking_on() -> Sheet {
+    sheet(
         &[7],
         &[
             (1, 97, 97),
@@ -116,7 +117,11 @@ fn too_deep(page: &mut Page) {
             (3, 4, 6),
         ],
     )
-    .bytes();
+}
+
+/// The line's end is looked at before the reading gets too deep.
+fn too_deep(page: &mut Page) {
+    let table = looking_on().bytes();
     let name = "S <- !('a'* 'b') 'a' S on 255 bytes";
     let line = [b'a'; 255];
     page.reading(name, &table, &line, prefix(2_500));

@@ -1,19 +1,19 @@
 //! The limits of a reading, and the order in which they are tested.
 
-use sheets::{sheet_a, Sheet};
+use independent::{LONGEST_LINE, MOST_ALLOWANCE};
+use sheets::sheet_a;
 
-use super::{nothing_lent, prefix, whole, Asked, Page};
+use super::long_lines::lent_more;
+use super::{nothing_lent, prefix, Asked, Page};
 use crate::deep::right_recursive;
+use crate::furthest::all;
 
+/// 8,002 visits are just enough for the longest line.
 pub(super) fn line_length(page: &mut Page) {
-    let mut sheet = Sheet::new();
-    let a = sheet.byte(b'a');
-    let all = sheet.repetition(a);
-    sheet.root(all);
-    for length in [255, 256] {
+    for length in [LONGEST_LINE, LONGEST_LINE + 1] {
         let name = format!("S <- 'a'* on {length} bytes");
         let line = vec![b'a'; length];
-        page.reading(&name, &sheet.bytes(), &line, whole(2_500));
+        page.reading(&name, &all().bytes(), &line, lent_more(8_002));
     }
 }
 
@@ -49,7 +49,7 @@ pub(super) fn working_numbers(page: &mut Page) {
 
 pub(super) fn allowance(page: &mut Page) {
     let a = sheet_a().bytes();
-    for allowance in [0, 1, 1_000_000, 1_000_001] {
+    for allowance in [0, 1, MOST_ALLOWANCE, MOST_ALLOWANCE + 1] {
         let name = format!("A on 7, allowance {allowance}");
         page.reading(&name, &a, b"7", prefix(allowance));
     }
@@ -80,8 +80,9 @@ pub(super) fn open_visits(page: &mut Page) {
 
 pub(super) fn order_of_a_reading(page: &mut Page) {
     let a = sheet_a().bytes();
+    let too_long = [b'7'; LONGEST_LINE + 1];
     for (name, line, allowance) in [
-        ("256 bytes, allowance 0", [b'7'; 256].as_slice(), 0),
+        ("4001 bytes, allowance 0", too_long.as_slice(), 0),
         ("7, allowance 0", b"7", 0),
         ("7, allowance 1", b"7", 1),
     ] {

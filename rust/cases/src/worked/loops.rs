@@ -1,5 +1,7 @@
 //! Repetitions of nothing: refused wherever they stand.
 
+use independent::LONGEST_LINE;
+
 use super::{nothing_lent, prefix, sheet, whole, Page};
 
 /// Repetitions whose child may be empty, and two that come close.
@@ -46,9 +48,9 @@ fn option_repeated(page: &mut Page) {
     page.reading("('kW'?)* on kW", &table, b"kW", prefix(2_500));
     page.reading("('kW'?)* on kW, whole", &table, b"kW", whole(2_500));
     page.reading(
-        "('kW'?)* on 256 bytes, allowance 0, nothing lent",
+        "('kW'?)* on 4001 bytes, allowance 0, nothing lent",
         &table,
-        &[b'k'; 256],
+        &[b'k'; LONGEST_LINE + 1],
         nothing_lent(0),
     );
     kilowatts.nodes[5] = (6, 2, 0);

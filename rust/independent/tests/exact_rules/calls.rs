@@ -35,7 +35,7 @@ fn run_with(
     whole: bool,
 ) -> Outcome {
     let mut work = vec![MARK; work];
-    let mut room = vec![FILL; 5_010];
+    let mut room = vec![FILL; 7_010];
     let answer = read_with(ways, table, line, allowance, &mut work, &mut room, whole);
     Outcome { answer, work, room }
 }
@@ -48,6 +48,12 @@ pub fn nothing_changed(outcome: &Outcome) -> bool {
 pub fn formula(table: &[u8], line: &[u8], allowance: u64) -> usize {
     let n = usize::from(table[3]) * 256 + usize::from(table[4]);
     2048 + 4 * allowance as usize + 2 * n * (line.len() + 1)
+}
+
+/// A record takes five bytes, seven where the line is over 255 bytes.
+pub fn stored_length(line: &[u8], records: u64) -> usize {
+    let record = if line.len() > 255 { 7 } else { 5 };
+    5 + record * records as usize
 }
 
 /// READ and 11 to 16: the line was read, to its end or not. LOOP is no such
@@ -73,7 +79,7 @@ pub fn reads_with(ways: Ways, table: &[u8], line: &[u8], allowance: u64, whole: 
         .all(|&number| number == expected));
     assert!(outcome.work[needed..].iter().all(|&number| number == MARK));
     let written = match code {
-        READ => 5 + 5 * outcome.answer.records as usize,
+        READ => stored_length(line, outcome.answer.records),
         _ => 0,
     };
     assert!(outcome.room[written..].iter().all(|&byte| byte == FILL));

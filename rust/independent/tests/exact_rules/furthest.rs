@@ -236,11 +236,11 @@ fn records_and_room_give_what_was_reached() {
 #[test]
 fn a_call_that_is_turned_away_gives_0() {
     let sheet = looking_ahead();
-    let long = [b'a'; 256];
+    let long = [b'a'; 4_001];
     for (line, allowance, work, code) in [
         (long.as_slice(), 100, 9_000, LINE),
         (b"abd", 0, 9_000, ALLOW),
-        (b"abd", 1_000_001, 9_000, ALLOW),
+        (b"abd", 5_000_001, 9_000, ALLOW),
         (b"abd", 100, 2_000, WORK),
     ] {
         for whole in [false, true] {

@@ -203,17 +203,7 @@ fn a_later_turn_is_as_deep_as_the_first() {
 /// it. At the j-th 'x' T's choice is the open visit number 3j + 3, the range 3j + 5.
 #[test]
 fn behind_a_row_as_many_visits_are_open_as_before_it() {
-    let nodes = [
-        (RANGE, 97, 97),
-        (REPEAT, 0, 0),
-        (RULE, 1, 0),
-        (SEQ, 1, 2),
-        (RANGE, 120, 120),
-        (SEQ, 4, 2),
-        (EMPTY, 0, 0),
-        (CHOICE, 5, 6),
-    ];
-    let sheet = table(&[3, 7], &nodes);
+    let sheet = deeper_behind_a_row();
     for row in [0, 1, 2, 80] {
         let line = |xs| [vec![b'a'; row], vec![b'x'; xs]].concat();
         assert_eq!(as_before(&sheet, &line(169)).code, READ);

@@ -5,15 +5,19 @@ use super::sheets::*;
 use independent::*;
 
 #[test]
-fn lines_of_255_and_256_bytes() {
+fn lines_of_4_000_and_4_001_bytes() {
     // S <- 'a'*
     let sheet = table(&[1], &[(RANGE, 97, 97), (REPEAT, 0, 0)]);
-    let line = [b'a'; 256];
+    let line = [b'a'; 4_001];
     assert_eq!(
-        whole(&sheet, &line[..255]),
-        answer(READ, 0, 255, 512, 1, 255)
+        reads(&sheet, &line[..4_000], 8_002, true).answer,
+        answer(READ, 0, 4_000, 8_002, 1, 4_000)
     );
-    assert_eq!(whole(&sheet, &line), turned_away(LINE, 0));
+    assert_eq!(
+        reads(&sheet, &line, 8_004, true).answer,
+        turned_away(LINE, 0)
+    );
+    assert_eq!(LONGEST_LINE, 4_000);
 }
 
 #[test]
@@ -40,24 +44,25 @@ fn working_numbers_one_short() {
 #[test]
 fn allowances_at_the_limits() {
     let sheet = sheet_a();
-    for allowance in [0, 1_000_001, 1 << 63, u64::MAX] {
+    for allowance in [0, 5_000_001, 1 << 63, u64::MAX] {
         assert_eq!(
             run(&sheet, b"7", allowance, 5_000, 50, true).answer.code,
             ALLOW
         );
     }
     assert_eq!(
-        run(&sheet, b"7", 1_000_000, 4_002_076, 50, true)
+        run(&sheet, b"7", 5_000_000, 20_002_076, 50, true)
             .answer
             .code,
         READ
     );
     assert_eq!(
-        run(&sheet, b"7", 1_000_000, 4_002_075, 50, true)
+        run(&sheet, b"7", 5_000_000, 20_002_075, 50, true)
             .answer
             .code,
         WORK
     );
+    assert_eq!(MOST_ALLOWANCE, 5_000_000);
 }
 
 #[test]

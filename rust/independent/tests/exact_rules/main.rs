@@ -6,6 +6,7 @@ mod furthest;
 mod in_place;
 mod limits;
 mod live_rules;
+mod long_lines;
 mod random;
 mod records;
 mod repeated_nothing;

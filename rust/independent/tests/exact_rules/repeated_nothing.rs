@@ -9,8 +9,8 @@ use independent::*;
 fn is_loop(table: &[u8], place: u64) {
     assert_eq!(check(table), (LOOP, place));
     assert_eq!(report(table).numbers(), [LOOP, place, 0, 0, 0, 64, 0]);
-    for line in [b"".as_slice(), b"kW", &[b'k'; 255], &[b'k'; 256]] {
-        for (allowance, work) in [(0, 0), (0, 9_000), (1_000_001, 0), (100, 0), (100, 9_000)] {
+    for line in [b"".as_slice(), b"kW", &[b'k'; 4_000], &[b'k'; 4_001]] {
+        for (allowance, work) in [(0, 0), (0, 9_000), (5_000_001, 0), (100, 0), (100, 9_000)] {
             for whole in [false, true] {
                 let outcome = run(table, line, allowance, work, 30, whole);
                 assert_eq!(outcome.answer, turned_away(LOOP, place));
@@ -201,7 +201,7 @@ fn every_node_is_tested_before_a_repetition_of_nothing_is_named() {
 #[test]
 fn line_allowance_and_working_numbers_come_after_it() {
     let (refused, accepted) = (kilowatts_repeated(4), kilowatts_repeated(2));
-    let long = [b'k'; 256];
+    let long = [b'k'; 4_001];
     for (line, allowance, work, code) in [
         (long.as_slice(), 0, 0, LINE),
         (b"kW", 0, 0, ALLOW),

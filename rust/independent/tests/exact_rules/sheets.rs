@@ -85,6 +85,21 @@ pub fn sheet_not() -> Vec<u8> {
 }
 
 /// So many rules, each the next one twice, the last empty.
+/// S <- 'a'* T; T <- 'x' T / empty: three visits deeper with each 'x'.
+pub fn deeper_behind_a_row() -> Vec<u8> {
+    let nodes = [
+        (RANGE, 97, 97),
+        (REPEAT, 0, 0),
+        (RULE, 1, 0),
+        (SEQ, 1, 2),
+        (RANGE, 120, 120),
+        (SEQ, 4, 2),
+        (EMPTY, 0, 0),
+        (CHOICE, 5, 6),
+    ];
+    table(&[3, 7], &nodes)
+}
+
 pub fn doubling(rules: u16) -> Vec<u8> {
     let mut nodes = vec![(EMPTY, 0, 0)];
     let mut roots = vec![0];

@@ -222,25 +222,28 @@ apply-list-of-requires t c κs = tt
 
 apply-keep-requires : (t : ℕ) → apply-lts.Need-keep-requires (apply-claims t) (apply-at t) apply.Post
 apply-keep-requires t c κs =
-    let at-start = c .before .before .before .before .before .before .before .before .before .before in
+    let at-start = c .before .before .before .before .before .before .before .before .before in
     let at-end-of = c .before .end-of in
     let at-pos-of4 = c .before .before .pos-of4 in
-    let rec-match = c .before .before .before .before .before .before .before in
+    let rec-match = c .before .before .before .before .before .before in
     let ready = at-start .pre .1 .0 in
     let met = apply-met t rec-match in
     let e = at-end-of .ensures in
     let m = met .0 .came .end-most in
-    (rw (at-pos-of4 .ensures) (roomy (lent (at-start .args .table .now .now) (at-start .args .given .now)) (at-start .args .line .now .now) _ (at-start .args .node) (posIn (at-start .args .spot)) (ready .fit) (met .0 .came .words .room) (ready .node-in) (ready .pos-in)), omega arith)
+    let free = keeps-yes _ (c .before .before .before .before .if1 .left) in
+    let given = lent (at-start .args .table .now .now) (at-start .args .given .now) in
+    let room = roomy given (at-start .args .line .now .now) _ (at-start .args .node) (posIn (at-start .args .spot)) (ready .fit) free (met .0 .came .words .room) (ready .node-in) (ready .pos-in) in
+    (rw (at-pos-of4 .ensures) room, omega arith)
 
 apply-returns-2 : (t : ℕ) → apply-lts.Need-returns-2 (apply-claims t) (apply-at t) apply.Post
 apply-returns-2 t c =
-    let at-start = c .before .before .before .before .before .before .before .before .before .before .before in
-    let at-if1 = c .before .before .before .before .before .before .if1 in
+    let at-start = c .before .before .before .before .before .before .before .before .before .before in
+    let at-if1 = c .before .before .before .before .before .if1 in
     let at-pos-of4 = c .before .before .before .pos-of4 in
     let at-end-of = c .before .before .end-of in
     let at-list-of = c .before .list-of in
     let at-keep = c .keep in
-    let rec-match = c .before .before .before .before .before .before .before .before in
+    let rec-match = c .before .before .before .before .before .before .before in
     let ready = at-start .pre .1 .0 in
     let free = keeps-yes _ (at-if1 .left) in
     let met = apply-met t rec-match in

@@ -271,16 +271,16 @@ keep-row-counted t c = counts (lent [] (c .before .before .before .before .befor
 
 keep-row-kept-word-requires : (t : ℕ) → keep-row-lts.Need-kept-word-requires (keep-row-claims t) (keep-row-at t) keep-row.Post keep-row-Inv-loop keep-row-μ-loop
 keep-row-kept-word-requires t c κs =
-    let at-start = c .before .before .before .before .before .before .before .before .before .before .before .before .before .before .before .before in
-    let at-end-of = c .before .before .before .before .before .before .before .before .before .end-of in
-    let at-if1 = c .before .before .before .before .before .before .before .before .if1 in
-    let at-if2 = c .before .before .before .before .before .before .before .if2 in
-    let at-visit = c .before .before .before .before .before .before .before .before .before .before .visit in
-    let at-loop = c .before .before .before .before .before .before .before .before .before .before .before .before .loop in
-    let at-if3 = c .before .before .before .before .before .if3 in
-    let at-pos-of2 = c .before .before .before .before .before .before .pos-of2 in
-    let the-visited = keep-row-visited t (c .before .before .before .before .before .before .before .before .before .before) in
-    let the-counted = keep-row-counted t (c .before .before) in
+    let at-start = c .before .before .before .before .before .before .before .before .before .before .before .before .before .before .before in
+    let at-end-of = c .before .before .before .before .before .before .before .before .end-of in
+    let at-if1 = c .before .before .before .before .before .before .before .if1 in
+    let at-if2 = c .before .before .before .before .before .before .if2 in
+    let at-visit = c .before .before .before .before .before .before .before .before .before .visit in
+    let at-loop = c .before .before .before .before .before .before .before .before .before .before .before .loop in
+    let at-if3 = c .before .before .before .before .if3 in
+    let at-pos-of2 = c .before .before .before .before .before .pos-of2 in
+    let the-visited = keep-row-visited t (c .before .before .before .before .before .before .before .before .before) in
+    let the-counted = keep-row-counted t (c .before) in
     let pre = at-start .pre .1 in
     let match = matched (at-end-of .ensures) (the-visited .came .end-most) (at-if1 .left) (at-if2 .left) in
     let less = let e = at-end-of .ensures in let q : endIn (at-visit .result) < STOPPED = omega arith in q in
@@ -289,28 +289,28 @@ keep-row-kept-word-requires t c κs =
 
 -- What is kept for it is looked up, and the words stay.
 keep-row-looked : (t : ℕ) (c : keep-row-lts.After-kept-word (keep-row-claims t) (keep-row-at t) keep-row.Post keep-row-Inv-loop keep-row-μ-loop)
-    → let args = c .before .before .before .before .before .before .before .before .before .before .before .before .before .before .before .before .before .args in
-    let words = c .before .before .before .before .before .before .before .before .before .before .before .visit .last .1 .1 .1 .0 .now in
+    → let args = c .before .before .before .before .before .before .before .before .before .before .before .before .before .before .before .before .args in
+    let words = c .before .before .before .before .before .before .before .before .before .before .visit .last .1 .1 .1 .0 .now in
     let counted = set words 2043 (madeIn words + 1) in
-    (c .kept-word .last .1 .1 .0 .now ≡ counted) × (c .kept-word .result ≡ getD counted (placeIn (lent (args .table .now .now) (args .given .now)) (args .line .now .now) (args .node) (endIn (c .before .before .before .before .before .before .before .before .before .before .before .visit .result))) 0)
+    (c .kept-word .last .1 .0 .now ≡ counted) × (c .kept-word .result ≡ getD counted (placeIn (lent (args .table .now .now) (args .given .now)) (args .node) (endIn (c .before .before .before .before .before .before .before .before .before .before .visit .result))) 0)
 keep-row-looked t c =
-    let counted = keep-row-counted t (c .before .before .before) in
-    (ap (λ r. r .now) (c .kept-word .ensures .1) ∙ counted .1, rw (c .before .before .before .before .before .before .before .before .before .before .end-of .ensures, counted .1) at (c .kept-word .ensures .0))
+    let counted = keep-row-counted t (c .before .before) in
+    (ap (λ r. r .now) (c .kept-word .ensures .1) ∙ counted .1, rw (c .before .before .before .before .before .before .before .before .before .end-of .ensures, counted .1) at (c .kept-word .ensures .0))
 
 keep-row-kept-answer-requires : (t : ℕ) → keep-row-lts.Need-kept-answer-requires (keep-row-claims t) (keep-row-at t) keep-row.Post keep-row-Inv-loop keep-row-μ-loop
 keep-row-kept-answer-requires t c κs =
-    let at-start = c .before .before .before .before .before .before .before .before .before .before .before .before .before .before .before .before .before .before .before .before in
-    let at-end-of = c .before .before .before .before .before .before .before .before .before .before .before .before .before .end-of in
-    let at-if1 = c .before .before .before .before .before .before .before .before .before .before .before .before .if1 in
-    let at-if2 = c .before .before .before .before .before .before .before .before .before .before .before .if2 in
-    let at-visit = c .before .before .before .before .before .before .before .before .before .before .before .before .before .before .visit in
-    let at-loop = c .before .before .before .before .before .before .before .before .before .before .before .before .before .before .before .before .loop in
-    let at-if3 = c .before .before .before .before .before .before .before .before .before .if3 in
-    let at-pos-of2 = c .before .before .before .before .before .before .before .before .before .before .pos-of2 in
-    let at-if5 = c .before .before .if5 in
-    let the-visited = keep-row-visited t (c .before .before .before .before .before .before .before .before .before .before .before .before .before .before) in
-    let the-counted = keep-row-counted t (c .before .before .before .before .before .before) in
-    let the-looked = keep-row-looked t (c .before .before .before) in
+    let at-start = c .before .before .before .before .before .before .before .before .before .before .before .before .before .before .before .before .before .before in
+    let at-end-of = c .before .before .before .before .before .before .before .before .before .before .before .end-of in
+    let at-if1 = c .before .before .before .before .before .before .before .before .before .before .if1 in
+    let at-if2 = c .before .before .before .before .before .before .before .before .before .if2 in
+    let at-visit = c .before .before .before .before .before .before .before .before .before .before .before .before .visit in
+    let at-loop = c .before .before .before .before .before .before .before .before .before .before .before .before .before .before .loop in
+    let at-if3 = c .before .before .before .before .before .before .before .if3 in
+    let at-pos-of2 = c .before .before .before .before .before .before .before .before .pos-of2 in
+    let at-if5 = c .before .if5 in
+    let the-visited = keep-row-visited t (c .before .before .before .before .before .before .before .before .before .before .before .before) in
+    let the-counted = keep-row-counted t (c .before .before .before .before) in
+    let the-looked = keep-row-looked t (c .before .before) in
     let pre = at-start .pre .1 in
     let match = matched (at-end-of .ensures) (the-visited .came .end-most) (at-if1 .left) (at-if2 .left) in
     let less = let e = at-end-of .ensures in let q : endIn (at-visit .result) < STOPPED = omega arith in q in
@@ -319,13 +319,13 @@ keep-row-kept-answer-requires t c κs =
 
 -- It is read, and the words stay.
 keep-row-found : (t : ℕ) (c : keep-row-lts.After-kept-answer (keep-row-claims t) (keep-row-at t) keep-row.Post keep-row-Inv-loop keep-row-μ-loop)
-    → let args = c .before .before .before .before .before .before .before .before .before .before .before .before .before .before .before .before .before .before .before .before .before .args in
-    let words = c .before .before .before .before .before .before .before .before .before .before .before .before .before .before .before .visit .last .1 .1 .1 .0 .now in
+    → let args = c .before .before .before .before .before .before .before .before .before .before .before .before .before .before .before .before .before .before .before .args in
+    let words = c .before .before .before .before .before .before .before .before .before .before .before .before .before .visit .last .1 .1 .1 .0 .now in
     let counted = set words 2043 (madeIn words + 1) in
-    (c .kept-answer .last .1 .1 .0 .now ≡ counted) × KeptAnswer (lent [] (args .given .now)) (args .line .now .now) counted (args .node) (endIn (c .before .before .before .before .before .before .before .before .before .before .before .before .before .before .before .visit .result)) (c .before .before .before .before .kept-word .result) (c .kept-answer .result)
+    (c .kept-answer .last .1 .0 .now ≡ counted) × KeptAnswer (lent [] (args .given .now)) counted (args .node) (endIn (c .before .before .before .before .before .before .before .before .before .before .before .before .before .visit .result)) (c .before .before .before .kept-word .result) (c .kept-answer .result)
 keep-row-found t c =
-    let looked = keep-row-looked t (c .before .before .before .before) in
-    (ap (λ r. r .now) (c .kept-answer .ensures .1) ∙ looked .0, rw (c .before .before .before .before .before .before .before .before .before .before .before .before .before .before .end-of .ensures, looked .0) at (c .kept-answer .ensures .0))
+    let looked = keep-row-looked t (c .before .before .before) in
+    (ap (λ r. r .now) (c .kept-answer .ensures .1) ∙ looked .0, rw (c .before .before .before .before .before .before .before .before .before .before .before .before .end-of .ensures, looked .0) at (c .kept-answer .ensures .0))
 
 keep-row-slice-aggregate-joined : (t : ℕ) → keep-row-lts.Need-slice-aggregate-joined (keep-row-claims t) (keep-row-at t) keep-row.Post keep-row-Inv-loop keep-row-μ-loop
 keep-row-slice-aggregate-joined t c = refl
@@ -341,20 +341,20 @@ keep-row-list-of-requires-2 t c κs = tt
 
 keep-row-joined-requires : (t : ℕ) → keep-row-lts.Need-joined-requires (keep-row-claims t) (keep-row-at t) keep-row.Post keep-row-Inv-loop keep-row-μ-loop
 keep-row-joined-requires t c κs =
-    let at-start = c .before .before .before .before .before .before .before .before .before .before .before .before .before .before .before .before .before .before .before .before .before .before .before .before .before in
-    let at-end-of = c .before .before .before .before .before .before .before .before .before .before .before .before .before .before .before .before .before .before .end-of in
-    let at-if1 = c .before .before .before .before .before .before .before .before .before .before .before .before .before .before .before .before .before .if1 in
-    let at-if2 = c .before .before .before .before .before .before .before .before .before .before .before .before .before .before .before .before .if2 in
-    let at-visit = c .before .before .before .before .before .before .before .before .before .before .before .before .before .before .before .before .before .before .before .visit in
-    let at-loop = c .before .before .before .before .before .before .before .before .before .before .before .before .before .before .before .before .before .before .before .before .before .loop in
-    let at-if3 = c .before .before .before .before .before .before .before .before .before .before .before .before .before .before .if3 in
-    let at-pos-of2 = c .before .before .before .before .before .before .before .before .before .before .before .before .before .before .before .pos-of2 in
-    let at-if5 = c .before .before .before .before .before .before .before .if5 in
+    let at-start = c .before .before .before .before .before .before .before .before .before .before .before .before .before .before .before .before .before .before .before .before .before .before .before in
+    let at-end-of = c .before .before .before .before .before .before .before .before .before .before .before .before .before .before .before .before .end-of in
+    let at-if1 = c .before .before .before .before .before .before .before .before .before .before .before .before .before .before .before .if1 in
+    let at-if2 = c .before .before .before .before .before .before .before .before .before .before .before .before .before .before .if2 in
+    let at-visit = c .before .before .before .before .before .before .before .before .before .before .before .before .before .before .before .before .before .visit in
+    let at-loop = c .before .before .before .before .before .before .before .before .before .before .before .before .before .before .before .before .before .before .before .loop in
+    let at-if3 = c .before .before .before .before .before .before .before .before .before .before .before .before .if3 in
+    let at-pos-of2 = c .before .before .before .before .before .before .before .before .before .before .before .before .before .pos-of2 in
+    let at-if5 = c .before .before .before .before .before .before .if5 in
     let at-list-of = c .before .list-of in
     let at-list-of2 = c .list-of2 in
-    let the-visited = keep-row-visited t (c .before .before .before .before .before .before .before .before .before .before .before .before .before .before .before .before .before .before .before) in
-    let the-counted = keep-row-counted t (c .before .before .before .before .before .before .before .before .before .before .before) in
-    let the-looked = keep-row-looked t (c .before .before .before .before .before .before .before .before) in
+    let the-visited = keep-row-visited t (c .before .before .before .before .before .before .before .before .before .before .before .before .before .before .before .before .before) in
+    let the-counted = keep-row-counted t (c .before .before .before .before .before .before .before .before .before) in
+    let the-looked = keep-row-looked t (c .before .before .before .before .before .before .before) in
     let the-found = keep-row-found t (c .before .before .before .before) in
     let pre = at-start .pre .1 in
     let match = matched (at-end-of .ensures) (the-visited .came .end-most) (at-if1 .left) (at-if2 .left) in
@@ -364,22 +364,22 @@ keep-row-joined-requires t c κs =
 
 keep-row-go-back-requires-3 : (t : ℕ) → keep-row-lts.Need-go-back-requires-3 (keep-row-claims t) (keep-row-at t) keep-row.Post keep-row-Inv-loop keep-row-μ-loop
 keep-row-go-back-requires-3 t c κs =
-    let at-start = c .before .before .before .before .before .before .before .before .before .before .before .before .before .before .before .before .before .before .before .before .before .before .before .before .before .before .before in
-    let at-end-of = c .before .before .before .before .before .before .before .before .before .before .before .before .before .before .before .before .before .before .before .before .end-of in
-    let at-if1 = c .before .before .before .before .before .before .before .before .before .before .before .before .before .before .before .before .before .before .before .if1 in
-    let at-if2 = c .before .before .before .before .before .before .before .before .before .before .before .before .before .before .before .before .before .before .if2 in
-    let at-visit = c .before .before .before .before .before .before .before .before .before .before .before .before .before .before .before .before .before .before .before .before .before .visit in
-    let at-loop = c .before .before .before .before .before .before .before .before .before .before .before .before .before .before .before .before .before .before .before .before .before .before .before .loop in
-    let at-if3 = c .before .before .before .before .before .before .before .before .before .before .before .before .before .before .before .before .if3 in
-    let at-pos-of2 = c .before .before .before .before .before .before .before .before .before .before .before .before .before .before .before .before .before .pos-of2 in
-    let at-if5 = c .before .before .before .before .before .before .before .before .before .if5 in
+    let at-start = c .before .before .before .before .before .before .before .before .before .before .before .before .before .before .before .before .before .before .before .before .before .before .before .before .before in
+    let at-end-of = c .before .before .before .before .before .before .before .before .before .before .before .before .before .before .before .before .before .before .end-of in
+    let at-if1 = c .before .before .before .before .before .before .before .before .before .before .before .before .before .before .before .before .before .if1 in
+    let at-if2 = c .before .before .before .before .before .before .before .before .before .before .before .before .before .before .before .before .if2 in
+    let at-visit = c .before .before .before .before .before .before .before .before .before .before .before .before .before .before .before .before .before .before .before .visit in
+    let at-loop = c .before .before .before .before .before .before .before .before .before .before .before .before .before .before .before .before .before .before .before .before .before .loop in
+    let at-if3 = c .before .before .before .before .before .before .before .before .before .before .before .before .before .before .if3 in
+    let at-pos-of2 = c .before .before .before .before .before .before .before .before .before .before .before .before .before .before .before .pos-of2 in
+    let at-if5 = c .before .before .before .before .before .before .before .before .if5 in
     let at-joined = c .before .joined in
     let at-end-of2 = c .before .before .before .before .end-of2 in
     let at-list-of = c .before .before .before .list-of in
     let at-list-of2 = c .before .before .list-of2 in
-    let the-visited = keep-row-visited t (c .before .before .before .before .before .before .before .before .before .before .before .before .before .before .before .before .before .before .before .before .before) in
-    let the-counted = keep-row-counted t (c .before .before .before .before .before .before .before .before .before .before .before .before .before) in
-    let the-looked = keep-row-looked t (c .before .before .before .before .before .before .before .before .before .before) in
+    let the-visited = keep-row-visited t (c .before .before .before .before .before .before .before .before .before .before .before .before .before .before .before .before .before .before .before) in
+    let the-counted = keep-row-counted t (c .before .before .before .before .before .before .before .before .before .before .before) in
+    let the-looked = keep-row-looked t (c .before .before .before .before .before .before .before .before .before) in
     let the-found = keep-row-found t (c .before .before .before .before .before .before) in
     let pre = at-start .pre .1 in
     let match = matched (at-end-of .ensures) (the-visited .came .end-most) (at-if1 .left) (at-if2 .left) in
@@ -389,26 +389,26 @@ keep-row-go-back-requires-3 t c κs =
 
 keep-row-returns-5 : (t : ℕ) → keep-row-lts.Need-returns-5 (keep-row-claims t) (keep-row-at t) keep-row.Post keep-row-Inv-loop keep-row-μ-loop
 keep-row-returns-5 t c =
-    let at-start = c .before .before .before .before .before .before .before .before .before .before .before .before .before .before .before .before .before .before .before .before .before .before .before .before .before .before .before .before in
-    let at-end-of = c .before .before .before .before .before .before .before .before .before .before .before .before .before .before .before .before .before .before .before .before .before .end-of in
-    let at-if1 = c .before .before .before .before .before .before .before .before .before .before .before .before .before .before .before .before .before .before .before .before .if1 in
-    let at-if2 = c .before .before .before .before .before .before .before .before .before .before .before .before .before .before .before .before .before .before .before .if2 in
-    let at-visit = c .before .before .before .before .before .before .before .before .before .before .before .before .before .before .before .before .before .before .before .before .before .before .visit in
-    let at-loop = c .before .before .before .before .before .before .before .before .before .before .before .before .before .before .before .before .before .before .before .before .before .before .before .before .loop in
-    let at-if3 = c .before .before .before .before .before .before .before .before .before .before .before .before .before .before .before .before .before .if3 in
-    let at-pos-of2 = c .before .before .before .before .before .before .before .before .before .before .before .before .before .before .before .before .before .before .pos-of2 in
-    let at-if5 = c .before .before .before .before .before .before .before .before .before .before .if5 in
+    let at-start = c .before .before .before .before .before .before .before .before .before .before .before .before .before .before .before .before .before .before .before .before .before .before .before .before .before .before in
+    let at-end-of = c .before .before .before .before .before .before .before .before .before .before .before .before .before .before .before .before .before .before .before .end-of in
+    let at-if1 = c .before .before .before .before .before .before .before .before .before .before .before .before .before .before .before .before .before .before .if1 in
+    let at-if2 = c .before .before .before .before .before .before .before .before .before .before .before .before .before .before .before .before .before .if2 in
+    let at-visit = c .before .before .before .before .before .before .before .before .before .before .before .before .before .before .before .before .before .before .before .before .visit in
+    let at-loop = c .before .before .before .before .before .before .before .before .before .before .before .before .before .before .before .before .before .before .before .before .before .before .loop in
+    let at-if3 = c .before .before .before .before .before .before .before .before .before .before .before .before .before .before .before .if3 in
+    let at-pos-of2 = c .before .before .before .before .before .before .before .before .before .before .before .before .before .before .before .before .pos-of2 in
+    let at-if5 = c .before .before .before .before .before .before .before .before .before .if5 in
     let at-joined = c .before .before .joined in
     let at-end-of2 = c .before .before .before .before .before .end-of2 in
     let at-list-of = c .before .before .before .before .list-of in
     let at-list-of2 = c .before .before .before .list-of2 in
     let at-go-back3 = c .go-back3 in
     let at-kept-answer = c .before .before .before .before .before .before .before .kept-answer in
-    let at-kept-word = c .before .before .before .before .before .before .before .before .before .before .before .kept-word in
-    let at-enter-in-place = c .before .before .before .before .before .before .before .before .before .before .before .before .before .before .before .enter-in-place in
-    let the-visited = keep-row-visited t (c .before .before .before .before .before .before .before .before .before .before .before .before .before .before .before .before .before .before .before .before .before .before) in
-    let the-counted = keep-row-counted t (c .before .before .before .before .before .before .before .before .before .before .before .before .before .before) in
-    let the-looked = keep-row-looked t (c .before .before .before .before .before .before .before .before .before .before .before) in
+    let at-kept-word = c .before .before .before .before .before .before .before .before .before .before .kept-word in
+    let at-enter-in-place = c .before .before .before .before .before .before .before .before .before .before .before .before .before .enter-in-place in
+    let the-visited = keep-row-visited t (c .before .before .before .before .before .before .before .before .before .before .before .before .before .before .before .before .before .before .before .before) in
+    let the-counted = keep-row-counted t (c .before .before .before .before .before .before .before .before .before .before .before .before) in
+    let the-looked = keep-row-looked t (c .before .before .before .before .before .before .before .before .before .before) in
     let the-found = keep-row-found t (c .before .before .before .before .before .before .before) in
     let pre = at-start .pre .1 in
     let match = matched (at-end-of .ensures) (the-visited .came .end-most) (at-if1 .left) (at-if2 .left) in
@@ -422,16 +422,16 @@ keep-row-returns-5 t c =
 
 keep-row-index-1-turns : (t : ℕ) → keep-row-lts.Need-index-1-turns (keep-row-claims t) (keep-row-at t) keep-row.Post keep-row-Inv-loop keep-row-μ-loop
 keep-row-index-1-turns t c =
-    let at-start = c .before .before .before .before .before .before .before .before .before .before .before .before .before .before .before .before .before .before in
-    let at-end-of = c .before .before .before .before .before .before .before .before .before .before .before .end-of in
-    let at-if1 = c .before .before .before .before .before .before .before .before .before .before .if1 in
-    let at-if2 = c .before .before .before .before .before .before .before .before .before .if2 in
-    let at-visit = c .before .before .before .before .before .before .before .before .before .before .before .before .visit in
-    let at-loop = c .before .before .before .before .before .before .before .before .before .before .before .before .before .before .loop in
-    let at-if3 = c .before .before .before .before .before .before .before .if3 in
-    let at-pos-of2 = c .before .before .before .before .before .before .before .before .pos-of2 in
-    let the-visited = keep-row-visited t (c .before .before .before .before .before .before .before .before .before .before .before .before) in
-    let the-counted = keep-row-counted t (c .before .before .before .before) in
+    let at-start = c .before .before .before .before .before .before .before .before .before .before .before .before .before .before .before .before .before in
+    let at-end-of = c .before .before .before .before .before .before .before .before .before .before .end-of in
+    let at-if1 = c .before .before .before .before .before .before .before .before .before .if1 in
+    let at-if2 = c .before .before .before .before .before .before .before .before .if2 in
+    let at-visit = c .before .before .before .before .before .before .before .before .before .before .before .visit in
+    let at-loop = c .before .before .before .before .before .before .before .before .before .before .before .before .before .loop in
+    let at-if3 = c .before .before .before .before .before .before .if3 in
+    let at-pos-of2 = c .before .before .before .before .before .before .before .pos-of2 in
+    let the-visited = keep-row-visited t (c .before .before .before .before .before .before .before .before .before .before .before) in
+    let the-counted = keep-row-counted t (c .before .before .before) in
     let the-looked = keep-row-looked t (c .before) in
     let pre = at-start .pre .1 in
     let match = matched (at-end-of .ensures) (the-visited .came .end-most) (at-if1 .left) (at-if2 .left) in
@@ -441,23 +441,23 @@ keep-row-index-1-turns t c =
 
 keep-row-add-turns : (t : ℕ) → keep-row-lts.Need-add-turns (keep-row-claims t) (keep-row-at t) keep-row.Post keep-row-Inv-loop keep-row-μ-loop
 keep-row-add-turns t c =
-    let at-start = c .before .before .before .before .before .before .before .before .before .before .before .before .before .before .before .before .before .before .before in
-    let at-end-of = c .before .before .before .before .before .before .before .before .before .before .before .before .end-of in
-    let at-if1 = c .before .before .before .before .before .before .before .before .before .before .before .if1 in
-    let at-if2 = c .before .before .before .before .before .before .before .before .before .before .if2 in
-    let at-visit = c .before .before .before .before .before .before .before .before .before .before .before .before .before .visit in
-    let at-loop = c .before .before .before .before .before .before .before .before .before .before .before .before .before .before .before .loop in
-    let at-if3 = c .before .before .before .before .before .before .before .before .if3 in
-    let at-pos-of2 = c .before .before .before .before .before .before .before .before .before .pos-of2 in
+    let at-start = c .before .before .before .before .before .before .before .before .before .before .before .before .before .before .before .before .before .before in
+    let at-end-of = c .before .before .before .before .before .before .before .before .before .before .before .end-of in
+    let at-if1 = c .before .before .before .before .before .before .before .before .before .before .if1 in
+    let at-if2 = c .before .before .before .before .before .before .before .before .before .if2 in
+    let at-visit = c .before .before .before .before .before .before .before .before .before .before .before .before .visit in
+    let at-loop = c .before .before .before .before .before .before .before .before .before .before .before .before .before .before .loop in
+    let at-if3 = c .before .before .before .before .before .before .before .if3 in
+    let at-pos-of2 = c .before .before .before .before .before .before .before .before .pos-of2 in
     let at-if5 = c .before .if5 in
-    let the-visited = keep-row-visited t (c .before .before .before .before .before .before .before .before .before .before .before .before .before) in
-    let the-counted = keep-row-counted t (c .before .before .before .before .before) in
+    let the-visited = keep-row-visited t (c .before .before .before .before .before .before .before .before .before .before .before .before) in
+    let the-counted = keep-row-counted t (c .before .before .before .before) in
     let the-looked = keep-row-looked t (c .before .before) in
     let pre = at-start .pre .1 in
     let match = matched (at-end-of .ensures) (the-visited .came .end-most) (at-if1 .left) (at-if2 .left) in
     let less = let e = at-end-of .ensures in let q : endIn (at-visit .result) < STOPPED = omega arith in q in
     let other = let q : endIn (at-visit .result) ≢ posIn (at-loop .here) = λ e. at-if3 .left (at-end-of .ensures ∙ e ∙ sym (at-pos-of2 .ensures)) in q in
-    let none = let q : getD (set (at-visit .last .1 .1 .1 .0 .now) 2043 (madeIn (at-visit .last .1 .1 .1 .0 .now) + 1)) (placeIn (lent (at-start .args .table .now .now) (at-start .args .given .now)) (at-start .args .line .now .now) (at-start .args .node) (endIn (at-visit .result))) 0 ≡ 0 = let z = at-if5 .left in omega (arith, the-looked .1) in q in
+    let none = let q : getD (set (at-visit .last .1 .1 .1 .0 .now) 2043 (madeIn (at-visit .last .1 .1 .1 .0 .now) + 1)) (placeIn (lent (at-start .args .table .now .now) (at-start .args .given .now)) (at-start .args .node) (endIn (at-visit .result))) 0 ≡ 0 = let z = at-if5 .left in omega (arith, the-looked .1) in q in
     let h = has-turn _ _ _ _ _ (pre .0) (pre .1 .0 .0) (pre .1 .0 .1) (pre .1 .1) (at-loop .inv .0) _ the-visited less other (the-counted .0) none in
     omega (arith, h .within, h .allowance, still-turns _ _ _ _ _ (pre .0) (pre .1 .0 .0) (pre .1 .0 .1) (pre .1 .1) (at-loop .inv .0) _ the-visited less other (the-counted .0), ap turnsIn (the-looked .0))
 
@@ -472,23 +472,23 @@ keep-row-list-of-requires-3 t c κs = tt
 
 keep-row-put-turn-requires : (t : ℕ) → keep-row-lts.Need-put-turn-requires (keep-row-claims t) (keep-row-at t) keep-row.Post keep-row-Inv-loop keep-row-μ-loop
 keep-row-put-turn-requires t c κs =
-    let at-start = c .before .before .before .before .before .before .before .before .before .before .before .before .before .before .before .before .before .before .before .before .before .before in
-    let at-end-of = c .before .before .before .before .before .before .before .before .before .before .before .before .before .before .before .end-of in
-    let at-if1 = c .before .before .before .before .before .before .before .before .before .before .before .before .before .before .if1 in
-    let at-if2 = c .before .before .before .before .before .before .before .before .before .before .before .before .before .if2 in
-    let at-visit = c .before .before .before .before .before .before .before .before .before .before .before .before .before .before .before .before .visit in
-    let at-loop = c .before .before .before .before .before .before .before .before .before .before .before .before .before .before .before .before .before .before .loop in
-    let at-if3 = c .before .before .before .before .before .before .before .before .before .before .before .if3 in
-    let at-pos-of2 = c .before .before .before .before .before .before .before .before .before .before .before .before .pos-of2 in
+    let at-start = c .before .before .before .before .before .before .before .before .before .before .before .before .before .before .before .before .before .before .before .before .before in
+    let at-end-of = c .before .before .before .before .before .before .before .before .before .before .before .before .before .before .end-of in
+    let at-if1 = c .before .before .before .before .before .before .before .before .before .before .before .before .before .if1 in
+    let at-if2 = c .before .before .before .before .before .before .before .before .before .before .before .before .if2 in
+    let at-visit = c .before .before .before .before .before .before .before .before .before .before .before .before .before .before .before .visit in
+    let at-loop = c .before .before .before .before .before .before .before .before .before .before .before .before .before .before .before .before .before .loop in
+    let at-if3 = c .before .before .before .before .before .before .before .before .before .before .if3 in
+    let at-pos-of2 = c .before .before .before .before .before .before .before .before .before .before .before .pos-of2 in
     let at-if5 = c .before .before .before .before .if5 in
-    let the-visited = keep-row-visited t (c .before .before .before .before .before .before .before .before .before .before .before .before .before .before .before .before) in
-    let the-counted = keep-row-counted t (c .before .before .before .before .before .before .before .before) in
+    let the-visited = keep-row-visited t (c .before .before .before .before .before .before .before .before .before .before .before .before .before .before .before) in
+    let the-counted = keep-row-counted t (c .before .before .before .before .before .before .before) in
     let the-looked = keep-row-looked t (c .before .before .before .before .before) in
     let pre = at-start .pre .1 in
     let match = matched (at-end-of .ensures) (the-visited .came .end-most) (at-if1 .left) (at-if2 .left) in
     let less = let e = at-end-of .ensures in let q : endIn (at-visit .result) < STOPPED = omega arith in q in
     let other = let q : endIn (at-visit .result) ≢ posIn (at-loop .here) = λ e. at-if3 .left (at-end-of .ensures ∙ e ∙ sym (at-pos-of2 .ensures)) in q in
-    let none = let q : getD (set (at-visit .last .1 .1 .1 .0 .now) 2043 (madeIn (at-visit .last .1 .1 .1 .0 .now) + 1)) (placeIn (lent (at-start .args .table .now .now) (at-start .args .given .now)) (at-start .args .line .now .now) (at-start .args .node) (endIn (at-visit .result))) 0 ≡ 0 = let z = at-if5 .left in omega (arith, the-looked .1) in q in
+    let none = let q : getD (set (at-visit .last .1 .1 .1 .0 .now) 2043 (madeIn (at-visit .last .1 .1 .1 .0 .now) + 1)) (placeIn (lent (at-start .args .table .now .now) (at-start .args .given .now)) (at-start .args .node) (endIn (at-visit .result))) 0 ≡ 0 = let z = at-if5 .left in omega (arith, the-looked .1) in q in
     rw ((ap turnsIn (the-looked .0) ∙ still-turns _ _ _ _ _ (pre .0) (pre .1 .0 .0) (pre .1 .0 .1) (pre .1 .1) (at-loop .inv .0) _ the-visited less other (the-counted .0)), the-looked .0) (has-turn _ _ _ _ _ (pre .0) (pre .1 .0 .0) (pre .1 .0 .1) (pre .1 .1) (at-loop .inv .0) _ the-visited less other (the-counted .0) none)
 
 keep-row-moved-requires : (t : ℕ) → keep-row-lts.Need-moved-requires (keep-row-claims t) (keep-row-at t) keep-row.Post keep-row-Inv-loop keep-row-μ-loop
@@ -496,52 +496,52 @@ keep-row-moved-requires t c κs = tt
 
 keep-row-loop-less : (t : ℕ) → keep-row-lts.Need-loop-less (keep-row-claims t) (keep-row-at t) keep-row.Post keep-row-Inv-loop keep-row-μ-loop
 keep-row-loop-less t c =
-    let at-start = c .before .before .before .before .before .before .before .before .before .before .before .before .before .before .before .before .before .before .before .before .before .before .before .before in
-    let at-end-of = c .before .before .before .before .before .before .before .before .before .before .before .before .before .before .before .before .before .end-of in
-    let at-if1 = c .before .before .before .before .before .before .before .before .before .before .before .before .before .before .before .before .if1 in
-    let at-if2 = c .before .before .before .before .before .before .before .before .before .before .before .before .before .before .before .if2 in
-    let at-visit = c .before .before .before .before .before .before .before .before .before .before .before .before .before .before .before .before .before .before .visit in
-    let at-loop = c .before .before .before .before .before .before .before .before .before .before .before .before .before .before .before .before .before .before .before .before .loop in
-    let at-if3 = c .before .before .before .before .before .before .before .before .before .before .before .before .before .if3 in
-    let at-pos-of2 = c .before .before .before .before .before .before .before .before .before .before .before .before .before .before .pos-of2 in
+    let at-start = c .before .before .before .before .before .before .before .before .before .before .before .before .before .before .before .before .before .before .before .before .before .before .before in
+    let at-end-of = c .before .before .before .before .before .before .before .before .before .before .before .before .before .before .before .before .end-of in
+    let at-if1 = c .before .before .before .before .before .before .before .before .before .before .before .before .before .before .before .if1 in
+    let at-if2 = c .before .before .before .before .before .before .before .before .before .before .before .before .before .before .if2 in
+    let at-visit = c .before .before .before .before .before .before .before .before .before .before .before .before .before .before .before .before .before .visit in
+    let at-loop = c .before .before .before .before .before .before .before .before .before .before .before .before .before .before .before .before .before .before .before .loop in
+    let at-if3 = c .before .before .before .before .before .before .before .before .before .before .before .before .if3 in
+    let at-pos-of2 = c .before .before .before .before .before .before .before .before .before .before .before .before .before .pos-of2 in
     let at-if5 = c .before .before .before .before .before .before .if5 in
     let at-pos-of4 = c .before .before .before .pos-of4 in
     let at-put-turn = c .before .put-turn in
-    let the-visited = keep-row-visited t (c .before .before .before .before .before .before .before .before .before .before .before .before .before .before .before .before .before .before) in
-    let the-counted = keep-row-counted t (c .before .before .before .before .before .before .before .before .before .before) in
+    let the-visited = keep-row-visited t (c .before .before .before .before .before .before .before .before .before .before .before .before .before .before .before .before .before) in
+    let the-counted = keep-row-counted t (c .before .before .before .before .before .before .before .before .before) in
     let the-looked = keep-row-looked t (c .before .before .before .before .before .before .before) in
     let pre = at-start .pre .1 in
     let match = matched (at-end-of .ensures) (the-visited .came .end-most) (at-if1 .left) (at-if2 .left) in
     let less = let e = at-end-of .ensures in let q : endIn (at-visit .result) < STOPPED = omega arith in q in
     let other = let q : endIn (at-visit .result) ≢ posIn (at-loop .here) = λ e. at-if3 .left (at-end-of .ensures ∙ e ∙ sym (at-pos-of2 .ensures)) in q in
-    let none = let q : getD (set (at-visit .last .1 .1 .1 .0 .now) 2043 (madeIn (at-visit .last .1 .1 .1 .0 .now) + 1)) (placeIn (lent (at-start .args .table .now .now) (at-start .args .given .now)) (at-start .args .line .now .now) (at-start .args .node) (endIn (at-visit .result))) 0 ≡ 0 = let z = at-if5 .left in omega (arith, the-looked .1) in q in
+    let none = let q : getD (set (at-visit .last .1 .1 .1 .0 .now) 2043 (madeIn (at-visit .last .1 .1 .1 .0 .now) + 1)) (placeIn (lent (at-start .args .table .now .now) (at-start .args .given .now)) (at-start .args .node) (endIn (at-visit .result))) 0 ≡ 0 = let z = at-if5 .left in omega (arith, the-looked .1) in q in
     nearer _ _ _ _ _ (pre .0) (pre .1 .0 .0) (pre .1 .0 .1) (pre .1 .1) (at-loop .inv .0) _ the-visited less other (the-counted .0) none _ (rw ((ap turnsIn (the-looked .0) ∙ still-turns _ _ _ _ _ (pre .0) (pre .1 .0 .0) (pre .1 .0 .1) (pre .1 .1) (at-loop .inv .0) _ the-visited less other (the-counted .0)), the-looked .0, at-pos-of4 .ensures) at (at-put-turn .ensures))
 
 keep-row-loop-again : (t : ℕ) → keep-row-lts.Need-loop-again (keep-row-claims t) (keep-row-at t) keep-row.Post keep-row-Inv-loop keep-row-μ-loop
 keep-row-loop-again t c =
-    let at-start = c .before .before .before .before .before .before .before .before .before .before .before .before .before .before .before .before .before .before .before .before .before .before .before .before in
-    let at-end-of = c .before .before .before .before .before .before .before .before .before .before .before .before .before .before .before .before .before .end-of in
-    let at-if1 = c .before .before .before .before .before .before .before .before .before .before .before .before .before .before .before .before .if1 in
-    let at-if2 = c .before .before .before .before .before .before .before .before .before .before .before .before .before .before .before .if2 in
-    let at-visit = c .before .before .before .before .before .before .before .before .before .before .before .before .before .before .before .before .before .before .visit in
-    let at-loop = c .before .before .before .before .before .before .before .before .before .before .before .before .before .before .before .before .before .before .before .before .loop in
-    let at-if3 = c .before .before .before .before .before .before .before .before .before .before .before .before .before .if3 in
-    let at-pos-of2 = c .before .before .before .before .before .before .before .before .before .before .before .before .before .before .pos-of2 in
+    let at-start = c .before .before .before .before .before .before .before .before .before .before .before .before .before .before .before .before .before .before .before .before .before .before .before in
+    let at-end-of = c .before .before .before .before .before .before .before .before .before .before .before .before .before .before .before .before .end-of in
+    let at-if1 = c .before .before .before .before .before .before .before .before .before .before .before .before .before .before .before .if1 in
+    let at-if2 = c .before .before .before .before .before .before .before .before .before .before .before .before .before .before .if2 in
+    let at-visit = c .before .before .before .before .before .before .before .before .before .before .before .before .before .before .before .before .before .visit in
+    let at-loop = c .before .before .before .before .before .before .before .before .before .before .before .before .before .before .before .before .before .before .before .loop in
+    let at-if3 = c .before .before .before .before .before .before .before .before .before .before .before .before .if3 in
+    let at-pos-of2 = c .before .before .before .before .before .before .before .before .before .before .before .before .before .pos-of2 in
     let at-if5 = c .before .before .before .before .before .before .if5 in
     let at-moved = c .moved in
     let at-pos-of4 = c .before .before .before .pos-of4 in
     let at-put-turn = c .before .put-turn in
     let at-list-of3 = c .before .before .list-of3 in
     let at-kept-word = c .before .before .before .before .before .before .before .kept-word in
-    let at-enter-in-place = c .before .before .before .before .before .before .before .before .before .before .before .enter-in-place in
-    let the-visited = keep-row-visited t (c .before .before .before .before .before .before .before .before .before .before .before .before .before .before .before .before .before .before) in
-    let the-counted = keep-row-counted t (c .before .before .before .before .before .before .before .before .before .before) in
+    let at-enter-in-place = c .before .before .before .before .before .before .before .before .before .before .enter-in-place in
+    let the-visited = keep-row-visited t (c .before .before .before .before .before .before .before .before .before .before .before .before .before .before .before .before .before) in
+    let the-counted = keep-row-counted t (c .before .before .before .before .before .before .before .before .before) in
     let the-looked = keep-row-looked t (c .before .before .before .before .before .before .before) in
     let pre = at-start .pre .1 in
     let match = matched (at-end-of .ensures) (the-visited .came .end-most) (at-if1 .left) (at-if2 .left) in
     let less = let e = at-end-of .ensures in let q : endIn (at-visit .result) < STOPPED = omega arith in q in
     let other = let q : endIn (at-visit .result) ≢ posIn (at-loop .here) = λ e. at-if3 .left (at-end-of .ensures ∙ e ∙ sym (at-pos-of2 .ensures)) in q in
-    let none = let q : getD (set (at-visit .last .1 .1 .1 .0 .now) 2043 (madeIn (at-visit .last .1 .1 .1 .0 .now) + 1)) (placeIn (lent (at-start .args .table .now .now) (at-start .args .given .now)) (at-start .args .line .now .now) (at-start .args .node) (endIn (at-visit .result))) 0 ≡ 0 = let z = at-if5 .left in omega (arith, the-looked .1) in q in
+    let none = let q : getD (set (at-visit .last .1 .1 .1 .0 .now) 2043 (madeIn (at-visit .last .1 .1 .1 .0 .now) + 1)) (placeIn (lent (at-start .args .table .now .now) (at-start .args .given .now)) (at-start .args .node) (endIn (at-visit .result))) 0 ≡ 0 = let z = at-if5 .left in omega (arith, the-looked .1) in q in
     let on = at-moved .ensures in
     let here = at-loop .inv .1 .1 .0 in
     let turns = ap turnsIn (the-looked .0) ∙ still-turns _ _ _ _ _ (pre .0) (pre .1 .0 .0) (pre .1 .0 .1) (pre .1 .1) (at-loop .inv .0) _ the-visited less other (the-counted .0) in

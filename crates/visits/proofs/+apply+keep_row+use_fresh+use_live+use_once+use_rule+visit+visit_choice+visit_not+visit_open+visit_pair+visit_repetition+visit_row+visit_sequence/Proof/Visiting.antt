@@ -82,25 +82,25 @@ abbrev Placed : ℕ → Type 0
 Placed t = visit-lts.After-pos-of2 (visit-claims t) (visit-at t) visit.Post
 
 visit-roomy : (t : ℕ) (c : Placed t)
-    → Roomy (lent [] (c .before .before .before .before .before .before .args .given .now)) (line-at t (c .before .before .before .before .before .before)) (c .before .before .before .before .enter .last .1 .0 .now) (c .before .before .before .before .before .before .args .node) (c .pos-of2 .result)
+    → Roomy (lent [] (c .before .before .before .before .before .before .args .given .now)) (c .before .before .before .before .enter .last .1 .0 .now) (c .before .before .before .before .before .before .args .node) (c .pos-of2 .result)
 visit-roomy t c =
     let start = c .before .before .before .before .before .before in
     let starts = visit-opened t (c .before .before .before) .starts in
-    rw (c .pos-of2 .ensures ∙ sym (visit-opened t (c .before .before .before) .there)) (roomy (given-at t start) _ _ _ _ (starts .fit) (starts .words .room) (starts .node-in) (starts .pos-in))
+    rw (c .pos-of2 .ensures ∙ sym (visit-opened t (c .before .before .before) .there)) (roomy (given-at t start) _ _ _ _ (starts .fit) (keeps-yes _ (c .before .if2 .left)) (starts .words .room) (starts .node-in) (starts .pos-in))
 
 -- What is kept is looked up, and the words stay.
 abbrev Looking : ℕ → Type 0
 Looking t = visit-lts.After-kept-word (visit-claims t) (visit-at t) visit.Post
 
 visit-looked : (t : ℕ) (c : Looking t)
-    → Looked (given-at t (c .before .before .before .before .before .before .before .before .before)) (line-at t (c .before .before .before .before .before .before .before .before .before)) (c .before .before .before .before .before .before .before .enter .last .1 .0 .now) (c .kept-word .last .1 .1 .0 .now)
-    (c .before .before .before .before .before .before .before .before .before .args .spot - 1) (c .before .before .before .before .before .before .before .before .before .args .node) (c .kept-word .result)
+    → Looked (given-at t (c .before .before .before .before .before .before .before .before)) (c .before .before .before .before .before .before .enter .last .1 .0 .now) (c .kept-word .last .1 .0 .now)
+    (c .before .before .before .before .before .before .before .before .args .spot - 1) (c .before .before .before .before .before .before .before .before .args .node) (c .kept-word .result)
 visit-looked t c =
-    let o = visit-opened t (c .before .before .before .before .before .before) in
-    record { same = ap (λ r. r .now) (c .kept-word .ensures .1); is = rw (c .before .before .before .pos-of2 .ensures ∙ sym (o .there)) at (c .kept-word .ensures .0) }
+    let o = visit-opened t (c .before .before .before .before .before) in
+    record { same = ap (λ r. r .now) (c .kept-word .ensures .1); is = rw (c .before .before .pos-of2 .ensures ∙ sym (o .there)) at (c .kept-word .ensures .0) }
 
-visit-lent : (t : ℕ) (c : Looking t) → c .kept-word .last .1 .1 .0 .name ≡ c .before .before .before .before .before .before .before .before .before .args .work .now .name
-visit-lent t c = ap (λ r. r .name) (c .kept-word .ensures .1) ∙ c .before .before .before .before .before .before .before .enter .ensures .1
+visit-lent : (t : ℕ) (c : Looking t) → c .kept-word .last .1 .0 .name ≡ c .before .before .before .before .before .before .before .before .args .work .now .name
+visit-lent t c = ap (λ r. r .name) (c .kept-word .ensures .1) ∙ c .before .before .before .before .before .before .enter .ensures .1
 
 visit-enter-requires : (t : ℕ) → visit-lts.Need-enter-requires (visit-claims t) (visit-at t) visit.Post
 visit-enter-requires t c κs =
@@ -152,30 +152,30 @@ visit-pos-of-requires-2 : (t : ℕ) → visit-lts.Need-pos-of-requires-2 (visit-
 visit-pos-of-requires-2 t c κs = tt
 
 visit-kept-word-requires : (t : ℕ) → visit-lts.Need-kept-word-requires (visit-claims t) (visit-at t) visit.Post
-visit-kept-word-requires t c κs = visit-roomy t (c .before .before)
+visit-kept-word-requires t c κs = visit-roomy t (c .before)
 
 visit-kept-answer-requires : (t : ℕ) → visit-lts.Need-kept-answer-requires (visit-claims t) (visit-at t) visit.Post
 visit-kept-answer-requires t c κs =
-    (rw (visit-looked t (c .before .before .before) .same) (visit-roomy t (c .before .before .before .before .before .before)), omega (arith, c .before .before .if3 .taken))
+    (rw (visit-looked t (c .before .before) .same) (visit-roomy t (c .before .before .before .before)), omega (arith, c .before .if3 .taken))
 
 visit-returns-3 : (t : ℕ) → visit-lts.Need-returns-3 (visit-claims t) (visit-at t) visit.Post
 visit-returns-3 t c =
-    let o = visit-opened t (c .before .before .before .before .before .before .before .before .before .before) in
-    let k = visit-looked t (c .before .before .before .before) in
-    let there = c .before .before .before .before .before .before .before .pos-of2 .ensures ∙ sym (o .there) in
+    let o = visit-opened t (c .before .before .before .before .before .before .before .before) in
+    let k = visit-looked t (c .before .before .before) in
+    let there = c .before .before .before .before .before .pos-of2 .ensures ∙ sym (o .there) in
     let kept = rw (there, k .same) at (c .kept-answer .ensures .0) in
-    let answered = kept-answered _ _ _ _ _ _ (o .starts) (o .space) (keeps-yes _ (c .before .before .before .before .before .before .before .before .if2 .left)) _ (ap (λ r. r .now) (c .kept-answer .ensures .1) ∙ k .same) _ _ (k .is) (c .before .before .before .if3 .taken) kept in
-    (opened _ _ _ _ _ (c .before .before .before .before .before .before .before .before .before .before .before .before .before .pre .1) o _ _ answered, ap (λ r. r .name) (c .kept-answer .ensures .1) ∙ visit-lent t (c .before .before .before .before))
+    let answered = kept-answered _ _ _ _ _ _ (o .starts) (o .space) (keeps-yes _ (c .before .before .before .before .before .before .if2 .left)) _ (ap (λ r. r .now) (c .kept-answer .ensures .1) ∙ k .same) _ _ (k .is) (c .before .before .if3 .taken) kept in
+    (opened _ _ _ _ _ (c .before .before .before .before .before .before .before .before .before .before .before .pre .1) o _ _ answered, ap (λ r. r .name) (c .kept-answer .ensures .1) ∙ visit-lent t (c .before .before .before))
 
 visit-kind-of-requires : (t : ℕ) → visit-lts.Need-kind-of-requires (visit-claims t) (visit-at t) visit.Post
 visit-kind-of-requires t c κs =
-    node-known (visit-opened t (c .before .before .before .before .before .before .before .before) .starts)
+    node-known (visit-opened t (c .before .before .before .before .before .before .before) .starts)
 
 visit-visit-range-requires : (t : ℕ) → visit-lts.Need-visit-range-requires (visit-claims t) (visit-at t) visit.Post
 visit-visit-range-requires t c κs =
-    let o = visit-opened t (c .before .before .before .before .before .before .before .before .before .before .before .before .before) in
+    let o = visit-opened t (c .before .before .before .before .before .before .before .before .before .before .before .before) in
     let k = visit-looked t (c .before .before .before .before .before .before .before) in
-    (node-known (o .starts), ((rw (c .before .before .before .before .before .before .before .before .before .before .pos-of2 .ensures ∙ sym (o .there)) (o .starts .pos-in), o .starts .fit .short), rw (k .same) (omega (arith, o .starts .words .room))))
+    (node-known (o .starts), ((rw (c .before .before .before .before .before .before .before .before .before .pos-of2 .ensures ∙ sym (o .there)) (o .starts .pos-in), o .starts .fit .short), rw (k .same) (omega (arith, o .starts .words .room))))
 
 visit-slice-aggregate-keep : (t : ℕ) → visit-lts.Need-slice-aggregate-keep (visit-claims t) (visit-at t) visit.Post
 visit-slice-aggregate-keep t c = refl
@@ -188,60 +188,61 @@ visit-list-of-requires t c κs = tt
 
 -- A range is visited, where nothing is kept for it.
 visit-ranged : (t : ℕ) (c : visit-lts.After-visit-range (visit-claims t) (visit-at t) visit.Post)
-    → let start = c .before .before .before .before .before .before .before .before .before .before .before .before .before .before .before .before .before in
-    Ends (given-at t start) (line-at t start) (c .before .before .before .before .before .before .before .before .before .before .before .before .before .before .before .enter .last .1 .0 .now) (c .visit-range .last .1 .1 .1 .0 .now) (start .args .spot - 1) (c .visit-range .result)
+    → let start = c .before .before .before .before .before .before .before .before .before .before .before .before .before .before .before .before in
+    Ends (given-at t start) (line-at t start) (c .before .before .before .before .before .before .before .before .before .before .before .before .before .before .enter .last .1 .0 .now) (c .visit-range .last .1 .1 .1 .0 .now) (start .args .spot - 1) (c .visit-range .result)
     (λ l s. applies (given-at t start) (line-at t start) (leftIn (start .args .spot - 1)) l (start .args .node) (posIn (start .args .spot - 1)) s)
 visit-ranged t c =
-    let start = c .before .before .before .before .before .before .before .before .before .before .before .before .before .before .before .before .before in
-    let o = visit-opened t (c .before .before .before .before .before .before .before .before .before .before .before .before .before .before) in
+    let start = c .before .before .before .before .before .before .before .before .before .before .before .before .before .before .before .before in
+    let o = visit-opened t (c .before .before .before .before .before .before .before .before .before .before .before .before .before) in
     let k = visit-looked t (c .before .before .before .before .before .before .before .before) in
-    let there = c .before .before .before .before .before .before .before .before .before .before .before .pos-of2 .ensures ∙ sym (o .there) in
+    let there = c .before .before .before .before .before .before .before .before .before .before .pos-of2 .ensures ∙ sym (o .there) in
     let range = rw there at (c .visit-range .ensures .0) in
     let reached = rw (there, k .same) at (c .visit-range .ensures .1 .0) in
     range-ends _ _ (start .args .spot - 1) (start .args .node) _ (o .starts) (sym (c .before .before .before .before .before .kind-of .ensures .0) ∙ c .before .before .before .before .if4 .taken) range reached
 
 visit-keep-requires : (t : ℕ) → visit-lts.Need-keep-requires (visit-claims t) (visit-at t) visit.Post
 visit-keep-requires t c κs =
-    let start = c .before .before .before .before .before .before .before .before .before .before .before .before .before .before .before .before .before .before .before .before .before in
-    let o = visit-opened t (c .before .before .before .before .before .before .before .before .before .before .before .before .before .before .before .before .before .before) in
-    let ranged = visit-ranged t (c .before .before .before .before) in
-    let room = roomy (given-at t start) _ _ _ _ (o .starts .fit) (ranged .came .words .room) (o .starts .node-in) (o .starts .pos-in) in
-    (rw (c .before .before .before .before .before .before .before .before .before .before .before .before .before .before .before .pos-of2 .ensures ∙ sym (o .there)) room, omega (arith, ranged .came .end-most, c .before .end-of .ensures))
+    let start = c .before .before .before .before .before .before .before .before .before .before .before .before .before .before .before .before .before .before .before in
+    let o = visit-opened t (c .before .before .before .before .before .before .before .before .before .before .before .before .before .before .before .before) in
+    let ranged = visit-ranged t (c .before .before .before) in
+    let free = keeps-yes _ (c .before .before .before .before .before .before .before .before .before .before .before .before .before .before .if2 .left) in
+    let room = roomy (given-at t start) _ _ _ _ (o .starts .fit) free (ranged .came .words .room) (o .starts .node-in) (o .starts .pos-in) in
+    (rw (c .before .before .before .before .before .before .before .before .before .before .before .before .before .pos-of2 .ensures ∙ sym (o .there)) room, omega (arith, ranged .came .end-most, c .before .end-of .ensures))
 
 visit-returns-4 : (t : ℕ) → visit-lts.Need-returns-4 (visit-claims t) (visit-at t) visit.Post
 visit-returns-4 t c =
-    let start = c .before .before .before .before .before .before .before .before .before .before .before .before .before .before .before .before .before .before .before .before .before .before in
-    let o = visit-opened t (c .before .before .before .before .before .before .before .before .before .before .before .before .before .before .before .before .before .before .before) in
-    let k = visit-looked t (c .before .before .before .before .before .before .before .before .before .before .before .before .before) in
-    let there = c .before .before .before .before .before .before .before .before .before .before .before .before .before .before .before .before .pos-of2 .ensures ∙ sym (o .there) in
-    let ranged = visit-ranged t (c .before .before .before .before .before) in
-    let at-enter = c .before .before .before .before .before .before .before .before .before .before .before .before .before .before .before .before .before .before .before .before .enter in
-    let at-if3 = c .before .before .before .before .before .before .before .before .before .before .before .before .if3 in
-    let none = let q : getD (at-enter .last .1 .0 .now) (placeIn (given-at t start) (line-at t start) (start .args .node) (posIn (start .args .spot - 1))) 0 ≡ 0 = omega (arith, k .is, at-if3 .left) in q in
+    let start = c .before .before .before .before .before .before .before .before .before .before .before .before .before .before .before .before .before .before .before .before in
+    let o = visit-opened t (c .before .before .before .before .before .before .before .before .before .before .before .before .before .before .before .before .before) in
+    let k = visit-looked t (c .before .before .before .before .before .before .before .before .before .before .before .before) in
+    let there = c .before .before .before .before .before .before .before .before .before .before .before .before .before .before .pos-of2 .ensures ∙ sym (o .there) in
+    let ranged = visit-ranged t (c .before .before .before .before) in
+    let at-enter = c .before .before .before .before .before .before .before .before .before .before .before .before .before .before .before .before .before .before .enter in
+    let at-if3 = c .before .before .before .before .before .before .before .before .before .before .before .if3 in
+    let none = let q : getD (at-enter .last .1 .0 .now) (placeIn (given-at t start) (start .args .node) (posIn (start .args .spot - 1))) 0 ≡ 0 = omega (arith, k .is, at-if3 .left) in q in
     let kept = rw (there, c .before .before .end-of .ensures, c .before .list-of .ensures) at (c .keep .ensures) in
-    let applied = open-applied _ _ _ _ _ _ (o .starts) (o .space) (keeps-yes _ (c .before .before .before .before .before .before .before .before .before .before .before .before .before .before .before .before .before .if2 .left)) _ refl _ none _ _ ranged kept in
-    (opened _ _ _ _ _ (start .pre .1) o _ _ applied, c .before .before .before .before .before .visit-range .ensures .1 .1 ∙ visit-lent t (c .before .before .before .before .before .before .before .before .before .before .before .before .before))
+    let applied = open-applied _ _ _ _ _ _ (o .starts) (o .space) (keeps-yes _ (c .before .before .before .before .before .before .before .before .before .before .before .before .before .before .before .if2 .left)) _ refl _ none _ _ ranged kept in
+    (opened _ _ _ _ _ (start .pre .1) o _ _ applied, c .before .before .before .before .visit-range .ensures .1 .1 ∙ visit-lent t (c .before .before .before .before .before .before .before .before .before .before .before .before))
 
 visit-sub-apply : (t : ℕ) → visit-lts.Need-sub-apply (visit-claims t) (visit-at t) visit.Post
 visit-sub-apply t c =
-    let some = visit-opened t (c .before .before .before .before .before .before .before .before .before .before .before) .some in omega (arith, some)
+    let some = visit-opened t (c .before .before .before .before .before .before .before .before .before .before) .some in omega (arith, some)
 
 visit-apply-requires : (t : ℕ) → visit-lts.Need-apply-requires (visit-claims t) (visit-at t) visit.Post
 visit-apply-requires t c κs =
-    let start = c .before .before .before .before .before .before .before .before .before .before .before .before .before .before in
-    let o = visit-opened t (c .before .before .before .before .before .before .before .before .before .before .before) in
+    let start = c .before .before .before .before .before .before .before .before .before .before .before .before .before in
+    let o = visit-opened t (c .before .before .before .before .before .before .before .before .before .before) in
     let k = visit-looked t (c .before .before .before .before .before) in
-    let free = keeps-yes _ (c .before .before .before .before .before .before .before .before .before .if2 .left) in
-    let at-enter = c .before .before .before .before .before .before .before .before .before .before .before .before .enter in
+    let free = keeps-yes _ (c .before .before .before .before .before .before .before .before .if2 .left) in
+    let at-enter = c .before .before .before .before .before .before .before .before .before .before .before .enter in
     let at-if3 = c .before .before .before .before .if3 in
-    let none = let q : getD (at-enter .last .1 .0 .now) (placeIn (given-at t start) (line-at t start) (start .args .node) (posIn (start .args .spot - 1))) 0 ≡ 0 = omega (arith, k .is, at-if3 .left) in q in
+    let none = let q : getD (at-enter .last .1 .0 .now) (placeIn (given-at t start) (start .args .node) (posIn (start .args .spot - 1))) 0 ≡ 0 = omega (arith, k .is, at-if3 .left) in q in
     (omega (arith, start .pre .0, left-less (start .args .spot) (o .some)), (rw (k .same) (o .starts), (o .space, (λ _. free, λ _. rw (k .same) none))))
 
 visit-returns-5 : (t : ℕ) → visit-lts.Need-returns-5 (visit-claims t) (visit-at t) visit.Post
 visit-returns-5 t c =
-    let start = c .before .before .before .before .before .before .before .before .before .before .before .before .before .before .before in
+    let start = c .before .before .before .before .before .before .before .before .before .before .before .before .before .before in
     let k = visit-looked t (c .before .before .before .before .before .before) in
-    (opened _ _ _ _ _ (start .pre .1) (visit-opened t (c .before .before .before .before .before .before .before .before .before .before .before .before)) _ _ (rw (k .same) at (c .apply .ensures .0)), c .apply .ensures .1 ∙ visit-lent t (c .before .before .before .before .before .before))
+    (opened _ _ _ _ _ (start .pre .1) (visit-opened t (c .before .before .before .before .before .before .before .before .before .before .before)) _ _ (rw (k .same) at (c .apply .ensures .0)), c .apply .ensures .1 ∙ visit-lent t (c .before .before .before .before .before .before))
 
 -- All of it.
 pub visit-closed : (M : Type 1) (t : ℕ) → visit-lts.Closed (visit-claims t) (visit-at t) visit.Post M

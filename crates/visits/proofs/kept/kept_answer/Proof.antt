@@ -4,7 +4,7 @@ use Rattle.visits.proofs.kept.kept_answer.Statement.{statement}
 use Rattle.visits.proofs.kept.kept_answer.Tie as tie
 use native.Mathlib.Omega.{arith}
 use mathlib.Core.Path.{refl}
-use lib.ListN.{length}
+use lib.ListN.{getD}
 use Rattle.visits.proofs.Places.{pairs-before}
 
 answer-requires : tie.Need-answer-requires
@@ -23,8 +23,8 @@ add-list c = search needs
 
 mul-list : tie.Need-mul-list
 mul-list c =
-    let start = c .before .before .before in
-    omega (arith, c .kept-at .ensures, start .pre .0 .room, pairs-before (start .args .node) (length (start .args .line .now)) (start .pre .0 .node-in) (start .pre .0 .short))
+    let start = c .before .before in
+    omega (arith, c .kept-at .ensures, start .pre .0 .room, pairs-before (start .args .pos) (getD (start .args .given .now) 1 0) (start .pre .0 .pos-in) (start .pre .0 .each))
 
 index-1-list : tie.Need-index-1-list
 index-1-list c = search needs

@@ -4,7 +4,7 @@ use Rattle.visits.proofs.kept.kept_word.Statement.{statement}
 use Rattle.visits.proofs.kept.kept_word.Tie as tie
 use native.Mathlib.Omega.{arith}
 use mathlib.Core.Path.{refl}
-use lib.ListN.{length}
+use lib.ListN.{getD}
 use Rattle.visits.proofs.Places.{pairs-before}
 
 kept-at-requires : tie.Need-kept-at-requires
@@ -12,8 +12,8 @@ kept-at-requires c κs = search needs
 
 mul-result : tie.Need-mul-result
 mul-result c =
-    let start = c .before .before in
-    omega (arith, c .kept-at .ensures, start .pre .room, pairs-before (start .args .node) (length (start .args .line .now)) (start .pre .node-in) (start .pre .short))
+    let start = c .before in
+    omega (arith, c .kept-at .ensures, start .pre .room, pairs-before (start .args .pos) (getD (start .args .given .now) 1 0) (start .pre .pos-in) (start .pre .each))
 
 index-1-result : tie.Need-index-1-result
 index-1-result c = search needs

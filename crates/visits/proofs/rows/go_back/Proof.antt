@@ -33,7 +33,7 @@ list-of-requires c κs = search needs
 
 keep-requires : tie.Need-keep-requires Inv-loop μ-loop
 keep-requires c κs =
-    let looped = c .before .before .before .before .before in
+    let looped = c .before .before .before .before in
     keep-ready _ _ _ _ _ (looped .before .before .before .pre) (looped .loop .inv .0) (c .before .end-of .ensures)
 
 slice-aggregate-turn-of : tie.Need-slice-aggregate-turn-of Inv-loop μ-loop
@@ -42,7 +42,7 @@ slice-aggregate-turn-of c = refl
 turn-of-requires : tie.Need-turn-of-requires Inv-loop μ-loop
 turn-of-requires c κs =
     let kept = c .before in
-    let tested = kept .before .before .before .before .before in
+    let tested = kept .before .before .before .before in
     let looped = tested .before in
     has-turn _ _ _ _ _ (looped .before .before .before .pre) (looped .loop .inv .0) (tested .loop-test .taken) (kept .before .before .end-of .ensures) (kept .before .list-of .ensures) (kept .keep .ensures)
 
@@ -62,7 +62,7 @@ joined-requires : tie.Need-joined-requires Inv-loop μ-loop
 joined-requires c κs =
     let read = c .before .before .before .before in
     let kept = read .before .before in
-    let tested = kept .before .before .before .before .before in
+    let tested = kept .before .before .before .before in
     let looped = tested .before in
     let turn = read .turn-of .ensures in
     join-ready _ _ _ _ _ (looped .before .before .before .pre) (looped .loop .inv .0) (tested .loop-test .taken) (kept .before .before .end-of .ensures) (kept .before .list-of .ensures) (kept .keep .ensures)
@@ -74,14 +74,14 @@ end-of-requires-3 c κs = search needs
 sub-turns : tie.Need-sub-turns Inv-loop μ-loop
 sub-turns c =
     let joined = c .before in
-    let tested = joined .before .before .before .before .before .before .before .before .before .before .before .before in
+    let tested = joined .before .before .before .before .before .before .before .before .before .before .before in
     let looped = tested .before in
     omega (arith, nearer _ _ _ _ _ (looped .before .before .before .pre) (looped .loop .inv .0) (tested .loop-test .taken))
 
 loop-less : tie.Need-loop-less Inv-loop μ-loop
 loop-less c =
     let joined = c .before in
-    let tested = joined .before .before .before .before .before .before .before .before .before .before .before .before in
+    let tested = joined .before .before .before .before .before .before .before .before .before .before .before in
     let looped = tested .before in
     nearer _ _ _ _ _ (looped .before .before .before .pre) (looped .loop .inv .0) (tested .loop-test .taken)
 
@@ -90,7 +90,7 @@ loop-again c =
     let joined = c .before in
     let read = joined .before .before .before .before .before in
     let kept = read .before .before in
-    let tested = kept .before .before .before .before .before in
+    let tested = kept .before .before .before .before in
     let looped = tested .before in
     let turn = read .turn-of .ensures in (
       loop-turns _ _ _ _ _ (looped .before .before .before .pre) (looped .loop .inv .0) (tested .loop-test .taken) (kept .before .before .end-of .ensures) (kept .before .list-of .ensures) (kept .keep .ensures)
