@@ -16,7 +16,8 @@
  * A table is a sheet in bytes; docs/FORMAT.md says which.
  *
  * A call takes at most 94,208 bytes of stack (KOS_STACK) on x86-64 with this
- * kit's compiler: that is measured (c/stack.c) and rounded up, not proved.
+ * kit's compiler, for a line of 4,000 bytes no more than for a short one: that is
+ * measured (c/stack.c) and rounded up, not proved.
  * Nothing is allocated, kept between calls or shared: calls with buffers of
  * their own may run at the same time. The same arguments give the same answer.
  * What each function writes is proved in crates/koskorbelu.

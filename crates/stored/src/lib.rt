@@ -19,6 +19,7 @@ ghost use Rattle.stored.specs.Stored.{inBytes, recordSize, recordBytes, 
 ghost use Rattle.stored.specs.WellFormed.{numberAt, recordsAt, allInRange, takes, goes, onlyLast, wellFormedOf, isWellFormed};
 ghost use Rattle.stored.specs.Scratch.{spansOf, leftOf, IsRecord};
 
+// No longer line is read, and nothing is well formed for one.
 pub const LONGEST_LINE: usize = 4000;
 
 // The longest line whose positions stand in one byte.

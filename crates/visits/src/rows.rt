@@ -75,7 +75,7 @@ pub(crate) fn set_turns(work: &mut [u32], turns: u32)
 }
 
 // Goes back over a row from where its last turn was made, by what that one answers: each pair's answer is kept, and the trees of the turn before are joined to it,
-// until no more turns wait than waited before the row. Answers what the first turn does. (The table is lent for what the check promises of it.)
+// until no more turns wait than waited before the row. Answers what the first turn does. (The table and the line are lent for what is promised of them.)
 pub(crate) fn go_back(
     given: &[u64; 4],
     table: &&[u8],
