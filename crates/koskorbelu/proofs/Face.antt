@@ -36,7 +36,7 @@ pub second_reading : {o : Outcome} {answer answer' work work' room room' : List 
     → (answer ≡ answer') × (work ≡ work') × (room ≡ room')
 second_reading h k = (h.written ∙ sym k.written, h.working ∙ sym k.working, h.stored ∙ sym k.stored)
 
--- ---- 02, W-202: "Free shall mean that no rule reachable from rule 0 [..] is left_recursive_lem": the report's last number says so, and is 0 on a refusal.
+-- ---- 02, W-202: "Free shall mean that no rule reachable from rule 0 [..] is left-recursive": the report's last number says so, and is 0 on a refusal.
 module _ {table answer : List ℕ} (h : LeavesReport table answer) where
   last_number : get_or answer 6 0 ≡ one h.findings.free
   unfolding report_numbers
@@ -51,14 +51,14 @@ module _ {table answer : List ℕ} (h : LeavesReport table answer) where
       let said = h.reported.free ((accepted_iff table).1 w) in
       ((λ e. said.0 (one_true h.findings.free (sym last_number ∙ e))), (λ f. last_number ∙ ap one (said.1 f)))
 
-  -- No rule at all is left_recursive_lem.
+  -- No rule at all is left-recursive.
   pub none_left : WellFormed table → get_or answer 3 0 ≡ 0 → get_or answer 6 0 ≡ 1
   unfolding report_numbers
   none_left w e =
       let accepted = (accepted_iff table).1 w in
       let mask : h.findings.left_recursive ≡ 0 = sym (ap (λ (a : List ℕ). get_or a 3 0) h.written) ∙ e in
       let none : (a : ℕ) → a < length (grammar_of table).roots → LeftRecursive (grammar_of table) a → ⊥ =
-      λ a l d. false≢true (sym (has_none a) ∙ rw mask at ((h.reported.left_recursive_lem accepted).complete a l d)) in
+      λ a l d. false≢true (sym (has_none a) ∙ rw mask at ((h.reported.left_rules accepted).complete a l d)) in
       (reported_free w).1 (free_of_all (grammar_of table) none)
 
   pub refused_free : ¬ WellFormed table → get_or answer 6 0 ≡ 0

@@ -115,7 +115,7 @@ pub data Answers : ℕ → Type 0 where
   records : Answers RECORDS
   room : Answers ROOM
 
--- 02, W-205: the reading by the published rules, in which the left_recursive_lem rules become live and no others.
+-- 02, W-205: the reading by the published rules, in which the left-recursive rules become live and no others.
 abbrev pub Published : Call → Answer → Amount → Type 0
 Published c = Reads (grammar c) c.line (left_recursive (grammar c))
 

@@ -11,7 +11,7 @@ use Rattle.reader.specs.Answer.{Outcome}
 unfoldable pub check_numbers : List ℕ → List ℕ
 check_numbers table = (check_of table).code ∷ (check_of table).place ∷ []
 
--- 01: "The report gives code, place, a 64-bit mask [..], a like mask of left_recursive_lem rules, how many bits are set in the second, and the lowest rule set in it";
+-- 01: "The report gives code, place, a 64-bit mask [..], a like mask of left-recursive rules, how many bits are set in the second, and the lowest rule set in it";
 -- 02, W-202: "the report adds a yes or no for free", as 1 or 0.
 unfoldable pub report_numbers : Findings → List ℕ
 report_numbers x = x.code ∷ x.place ∷ x.may_be_empty ∷ x.left_recursive ∷ x.how_many ∷ x.lowest ∷ one x.free ∷ []

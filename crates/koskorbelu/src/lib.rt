@@ -31,7 +31,7 @@ pub extern "C" fn kos_check(table: &[u8], answer: &mut [u64; 2])
     *answer = [v.code as u64, v.place as u64];
 }
 
-// The report on a table: code, place, the rules that may be empty, the left_recursive_lem ones, how many of them, the lowest, and 1 if the sheet is free.
+// The report on a table: code, place, the rules that may be empty, the left-recursive ones, how many of them, the lowest, and 1 if the sheet is free.
 #[unsafe(no_mangle)]
 pub extern "C" fn kos_report(table: &[u8], answer: &mut [u64; 7])
     ensures { LeavesReport table.now answer.new }

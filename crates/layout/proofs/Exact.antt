@@ -1,4 +1,4 @@
--- The check of the layout gives each code exactly where its row of 01's table says, at that row's place; and has nothing to refuse exactly in well_laid tables.
+-- The check of the layout gives each code exactly where its row of 01's table says, at that row's place; and has nothing to refuse exactly in well-laid tables.
 use mathlib.Core.Path.{◌≡◌, refl, sym, ap, subst, ◌∙◌}
 use mathlib.Core.Logic.{◌↔◌, ◌≢◌}
 use mathlib.Core.List.{List}
@@ -120,7 +120,7 @@ module _ (t : List ℕ) where
   small (field h roots l before k n) = omega arith
   small (read w) = omega arith
 
-  -- The code 0 is given to a well_laid table only.
+  -- The code 0 is given to a well-laid table only.
   of_read : {code place : ℕ} → Given t code place → code ≡ READ → WellLaid t
   of_read (short h) e = absurd (omega arith)
   of_read (version l h) e = absurd (omega arith)

@@ -80,7 +80,7 @@ pub record WellLaid (t : List ℕ) : Type 0 where
   pub kinds : (i : ℕ) → i < nodes_of t → kind_of t i ≤ 6
   pub fields : (i : ℕ) → i < nodes_of t → NodeFits t i
 
--- What a node is, by its kind and fields. A kind above 6 is in no well_laid table.
+-- What a node is, by its kind and fields. A kind above 6 is in no well-laid table.
 abbrev pub decode : (kind a b : ℕ) → Node
 decode zero a b = empty
 decode (suc zero) a b = range a b

@@ -1,4 +1,4 @@
--- Chains join; one of starts from a rule's root to a use of the same rule makes the rule left_recursive_lem.
+-- Chains join; one of starts from a rule's root to a use of the same rule makes the rule left-recursive.
 use mathlib.Core.Path.{◌≡◌, refl, sym, ◌∙◌}
 use Prim.Native.Nat.{ℕ}
 use Rattle.meaning.specs.Grammar.{Node, rule, Grammar, root}

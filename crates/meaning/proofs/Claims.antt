@@ -39,7 +39,7 @@ module _ (g : Grammar) (line : List ℕ) where
   the_only : {live : ℕ → Bool} {r : Answer} {n : Amount} → Reads g line live r n → Only live r n
   the_only {live} h = record { reads = h; only = λ q m k. one_reading g line live h k }
 
-  -- The left_recursive_lem rules are those that need to become live.
+  -- The left-recursive rules are those that need to become live.
   enough : Closed g → Enough g (left_recursive g)
   enough good = record { needed = λ a la reached recursive. (recursive_iff g good a la).1 recursive }
 
@@ -48,14 +48,14 @@ module _ (g : Grammar) (line : List ℕ) where
     pub answered_every : (r : Answer) × (n : Amount) × Only every_rule r n
     answered_every = let h = A.answered g line good rules in (h.0, h.1, the_only h.2)
 
-    -- So it has where the left_recursive_lem rules do.
+    -- So it has where the left-recursive rules do.
     pub answered : (r : Answer) × (n : Amount) × Only (left_recursive g) r n
     answered =
         let h = A.answered g line good rules in
         let k = reads_turn g line good (left_recursive g) (enough good) rules h.2 in
         (h.0, k.0, the_only k.1)
 
-    -- 02, W-205: match and tree are the same both ways, and so are the furthest position and how many visits are open at once; with left_recursive_lem rules alone there are
+    -- 02, W-205: match and tree are the same both ways, and so are the furthest position and how many visits are open at once; with left-recursive rules alone there are
     -- no more visits.
     pub same_reading : {r q : Answer} {n m : Amount} → Reads g line every_rule r n → Reads g line (left_recursive g) q m → (q ≡ r) × Spares m n
     same_reading {n = n} h k =
@@ -63,7 +63,7 @@ module _ (g : Grammar) (line : List ℕ) where
         let z = one_reading g line (left_recursive g) k t.1 in
         (z.answer, rw z.count t.2)
 
-    -- Where they answer with left_recursive_lem rules alone, they answer so with every rule.
+    -- Where they answer with left-recursive rules alone, they answer so with every rule.
     pub every_reading : {r : Answer} {m : Amount} → Reads g line (left_recursive g) r m → (n : Amount) × Reads g line every_rule r n × Spares m n
     every_reading h = let e = A.answered g line good rules in let z = same_reading e.2 h in (e.1, rw z.0 e.2, z.1)
 
@@ -82,7 +82,7 @@ module _ (g : Grammar) (line : List ℕ) where
     itself (done r t) = (refl, refl, omega arith)
 
     module _ (good : Closed g) where
-      -- A grammar that isn't free is read with nothing kept, and its left_recursive_lem rules become live; a free one is read with answers kept. is_free says which it is
+      -- A grammar that isn't free is read with nothing kept, and its left-recursive rules become live; a free one is read with answers kept. is_free says which it is
       -- (Decided.free_iff), left_recursive which rules they are (Decided.recursive_iff).
       pub as_other : ¬ Free g → read g line allowance ≡ read_by g line (grows (left_recursive g)) allowance
       unfolding read

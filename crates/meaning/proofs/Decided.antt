@@ -1,4 +1,4 @@
--- What Decide computes is what Report says of a closed grammar: which rules may be empty, left_recursive_lem and reachable, and whether it is free.
+-- What Decide computes is what Report says of a closed grammar: which rules may be empty, left-recursive and reachable, and whether it is free.
 use mathlib.Core.Path.{◌≡◌, refl, sym, ap, ◌∙◌}
 use mathlib.Core.Logic.{◌≢◌, ◌⊎◌, inl, inr, ⊎_elim, ◌↔◌}
 use Prim.Native.Nat.{ℕ, zero, suc, ◌<◌, ◌≤◌}
@@ -159,7 +159,7 @@ module _ (g : Grammar) where
           use_used g.nodes (get_or (chained g (starts_of g es)) (root_of g a) []) a t.number t.way t.is,
     )
 
-    -- The left_recursive_lem ones among the grammar's rules, and no other number.
+    -- The left-recursive ones among the grammar's rules, and no other number.
     pub recursive_rule : (a : ℕ) → left_recursive g a ≡ true → (a < length g.roots) × LeftRecursive g a
     unfolding left_recursive
     recursive_rule a e =

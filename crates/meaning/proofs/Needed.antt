@@ -1,4 +1,4 @@
--- 02's W-205: it is enough that those rules become live which need it: the left_recursive_lem ones that are reached. A use of another rule is never met while it is live,
+-- 02's W-205: it is enough that those rules become live which need it: the left-recursive ones that are reached. A use of another rule is never met while it is live,
 -- so its second attempt answers as its first. Match and tree are those where every rule becomes live, with the same furthest position and as many visits open at once,
 -- in no more visits.
 use mathlib.Core.Path.{◌≡◌, refl, sym, subst, ap, ◌∙◌}
@@ -21,7 +21,7 @@ use Rattle.meaning.proofs.OneBounded.{det}
 use Rattle.meaning.proofs.Conserve.{as_reading}
 use Rattle.meaning.proofs.Spans.{Span, Spanned, Held, held_more, spans}
 
--- Every left_recursive_lem rule that is reached becomes live.
+-- Every left-recursive rule that is reached becomes live.
 pub record Enough (g : Grammar) (live : ℕ → Bool) : Type 0 where
   pub needed : (a : ℕ) → a < length g.roots → Reachable g a → LeftRecursive g a → live a ≡ true
 
@@ -190,7 +190,7 @@ module _ (g : Grammar) (line : List ℕ) (good : Closed g) (live : ℕ → Bool)
         record { amount = visiting i.amount; rules = R.lvar2 v (sym (c.same a x v) ∙ q) i.rules; spares = spares_visit i.spares }
     of_lvar2 false v q h = let i = h m (not_held fail tt v) in record { amount = visiting i.amount; rules = R.var v i.rules; spares = spares_visit i.spares }
 
-    -- A rule that is met while it is live is left_recursive_lem, so it becomes live.
+    -- A rule that is met while it is live is left-recursive, so it becomes live.
     of_lvar3 : (b : Bool) → live a ≡ b → {r : Answer} → look l a x ≡ some r → Turns m (at (rule a)) x (wrap a x r) (visiting nothing)
     of_lvar3 true v q = leaf (visiting nothing) (R.lvar3 v (sym (c.same a x v) ∙ q))
     of_lvar3 false v {r} q = clash (enough.needed a la reached (round g a (c.leads a x r q refl))) v

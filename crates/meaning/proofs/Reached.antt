@@ -6,7 +6,7 @@ use Rattle.meaning.specs.Report.{Starts, by_not, by_rep, by_choice, by_other, by
 use Rattle.meaning.specs.Report.{Child, to_first, to_second, to_one, to_other, to_denied, to_repeated, Reachable, start, used}
 
 module _ (g : Grammar) where
-  -- 01: "A grammar is free if no rule in its table is left_recursive_lem." What was free by that is free.
+  -- 01: "A grammar is free if no rule in its table is left-recursive." What was free by that is free.
   pub free_of_all : ((a : ℕ) → a < length g.roots → LeftRecursive g a → ⊥) → Free g
   free_of_all none = record { none = λ a h r d. none a h d }
 

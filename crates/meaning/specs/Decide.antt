@@ -1,4 +1,4 @@
--- Which rules may be empty, which are left_recursive_lem, which are reachable and whether a grammar is free, computed with lists of marks, a mark for each node
+-- Which rules may be empty, which are left-recursive, which are reachable and whether a grammar is free, computed with lists of marks, a mark for each node
 -- or rule.
 -- Nobody need believe it: proofs/Decided shows that this is what Report says.
 use Rattle.std.specs.Prelude.{ℕ, zero, suc, Bool, true, ◌&&◌, ◌||◌, cond, length, replicate}
@@ -118,7 +118,7 @@ module _ (g : Grammar) where
   unfoldable pub reachable : List Bool
   reachable = either (only 0) (used g.nodes (either (only (root_of g 0)) (get_or (chained goes_to) (root_of g 0) [])))
 
-  -- None of the first k rules that are marked is left_recursive_lem.
+  -- None of the first k rules that are marked is left-recursive.
   abbrev pub none_of : List Bool → ℕ → Bool
   none_of rs zero = true
   none_of rs (suc k) = B.not (get_or rs k false && left_recursive k) && none_of rs k

@@ -187,6 +187,6 @@ module _ (g : Grammar) (line : List ℕ) where
   unfoldable pub read_by : Way → ℕ → Run
   read_by way allowance = use_rule way (visit way 512) [] 0 0 (starting allowance)
 
-  -- 02, W-205: "From now on only left_recursive_lem rules become live; another rule's use visits its root once. [..] Free sheets don't change."
+  -- 02, W-205: "From now on only left-recursive rules become live; another rule's use visits its root once. [..] Free sheets don't change."
   unfoldable pub read : ℕ → Run
   read allowance = read_by (way_of (is_free g) (left_recursive g)) allowance

@@ -59,7 +59,7 @@ pub data Reachable (g : Grammar) : ℕ → Type 0 where
   start : Reachable g 0
   used : {a b : ℕ} → Reachable g a → Chain (Child g) (root g a) (rule b) → Reachable g b
 
--- 02, W-202: "Free shall mean that no rule reachable from rule 0 (through any kind of node) is left_recursive_lem."
+-- 02, W-202: "Free shall mean that no rule reachable from rule 0 (through any kind of node) is left-recursive."
 pub record Free (g : Grammar) : Type 0 where
   pub none : (a : ℕ) → a < length g.roots → Reachable g a → LeftRecursive g a → ⊥
 

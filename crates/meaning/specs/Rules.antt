@@ -1,6 +1,6 @@
 -- The rules of document 003, by their names there: Figure 1 is Plain, Figure 2 is Bounded, both with the repetition of document 01.
 -- docs/PAPER.md says which rules are merged: char.2 with char.3, var.1 with var.2, ord.2 with ord.3, lvar.3 with lvar.4.
--- 003 has var for rules that aren't left_recursive_lem and lvar for those that are; here which rules become live is a parameter of Bounded.
+-- 003 has var for rules that aren't left-recursive and lvar for those that are; here which rules become live is a parameter of Bounded.
 use Rattle.std.specs.Prelude.{◌≡◌, ◌≢◌, ℕ, suc, ◌+◌, ◌-◌, ◌<◌, ◌≤◌, max, Bool, true, false, List, []}
 use Rattle.std.proofs.Math.Option.{none, some}
 use Rattle.meaning.specs.Grammar.{Node, empty, range, rule, seq, choice, not, rep, Grammar, node, root, Trees, no_trees, ◌⋈◌, Answer, fail, ok, wrap, fits, Note, noted, look}

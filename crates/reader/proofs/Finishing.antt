@@ -30,7 +30,7 @@ module _ {long : ℕ} {w : List ℕ} {v : Visited} (f : Finishable long w v) (en
   matched = let m = f.end_most in omega arith
 
   pub arena_of : (list : ℕ) → list ≡ v.list → Arena w list
-  arena_of list e = let m = f.end_most in let l = f.list_in_lem (omega arith) in arena_less w v.top list (omega arith) f.arena
+  arena_of list e = let m = f.end_most in let l = f.list_within (omega arith) in arena_less w v.top list (omega arith) f.arena
 
 -- The end, the list and the visits made are those of the result, and the furthest position that of the words.
 module _ (whole : Bool) (long : ℕ) (w : List ℕ) (v : Visited) (room : List ℕ) (short : long ≤ longest_line) (end list made furthest : ℕ)

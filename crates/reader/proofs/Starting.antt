@@ -95,7 +95,7 @@ module _ (table line w₀ w : List ℕ) (allowance each at mask : ℕ) (free : B
     fit = fit;
     words = words;
     node_in = root_within given line fit 0 (some_rule s);
-    pos_in_lem = omega arith;
+    pos_within = omega arith;
     open_in = omega arith;
     made_within = omega arith;
     top_within = omega (arith, no_turn);
@@ -137,7 +137,7 @@ module _ (table line w₀ w : List ℕ) (allowance each at mask : ℕ) (free : B
       arena = came.words.arena;
       end_most = came.end_most;
       end_within = came.end_within;
-      list_in_lem = came.list_in_lem;
+      list_within = came.list_within;
       made_within = came.made_within;
       past = λ i h. came.same.past i h ∙ above i (omega arith);
     }

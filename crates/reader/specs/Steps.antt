@@ -27,10 +27,10 @@ pub record Fitting (table line work : List ℕ) (allowance : ℕ) : Type 0 where
   pub allowed : allowance ≤ most_allowance
   pub room : work_needed allowance (nodes_of table) (length line) ≤ length work
 
-pub record Startable (table line work : List ℕ) (allowance : ℕ) (free : Bool) (left_recursive_lem : ℕ) : Type 0 where
+pub record Startable (table line work : List ℕ) (allowance : ℕ) (free : Bool) (mask : ℕ) : Type 0 where
   pub fitting : Fitting table line work allowance
   pub free_is : free ≡ is_free (grammar_of table)
-  pub left_rules : LeftRules (grammar_of table) left_recursive_lem
+  pub left_rules : LeftRules (grammar_of table) mask
   pub arena : Arena work 0
   pub kept : free ≡ true → (i : ℕ) → 2048 + 4 * allowance ≤ i → i < work_needed allowance (nodes_of table) (length line) → get_or work i 0 ≡ 0
 
@@ -51,7 +51,7 @@ pub record Visiting (allowance long needed : ℕ) (old new : List ℕ) (v : Visi
   pub arena : Arena new v.top
   pub end_most : v.end ≤ FAILED
   pub end_within : v.end < STOPPED → v.end ≤ long
-  pub list_in_lem : v.end < STOPPED → v.list ≤ v.top
+  pub list_within : v.end < STOPPED → v.list ≤ v.top
   pub made_within : v.made ≤ allowance
   pub past : (i : ℕ) → needed ≤ i → get_or new i 0 ≡ get_or old i 0
 
@@ -60,7 +60,7 @@ pub record Finishable (long : ℕ) (w : List ℕ) (v : Visited) : Type 0 where
   pub arena : Arena w v.top
   pub end_most : v.end ≤ FAILED
   pub end_within : v.end < STOPPED → v.end ≤ long
-  pub list_in_lem : v.end < STOPPED → v.list ≤ v.top
+  pub list_within : v.end < STOPPED → v.list ≤ v.top
 
 -- However the run ended, if the result tells it, what was returned and written is its outcome.
 abbrev pub Finished : (whole : Bool) (long : ℕ) (w : List ℕ) (v : Visited) (r : Reading) (old new : List ℕ) → Type 0

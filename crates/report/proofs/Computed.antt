@@ -39,7 +39,7 @@ module _ {r : ℕ} {P : ℕ → Type 0} {mask : ℕ} (m : MaskOf r P mask) (few 
   marked : mask ≡ mask_of marks
   marked = is_mask_of 64 mask marks m.fits (omega arith) (λ a h. same_bit a)
 
--- A mask of the left_recursive_lem rules has the bits that Decide computes.
+-- A mask of the left-recursive rules has the bits that Decide computes.
 pub recursive_bits : (g : Grammar) → Closed g → {mask : ℕ} → LeftRules g mask → has mask ≡ left_recursive g
 recursive_bits g good {mask} m =
     fun_ext (λ a. together (has mask a) (left_recursive g a) (λ e. let h = m.sound a e in (recursive_iff g good a h.0).1 h.1) (λ e. let h = recursive_rule g good a e in m.complete a h.0 h.1))
@@ -71,4 +71,4 @@ module _ {t : List ℕ} {x : Findings} (reported : Reported t x) (accepted : Acc
   computed_empty = marked (reported.may_be_empty accepted) (few_rules t accepted) (empty_rules (grammar_of t)) (empty_marks (grammar_of t)) (empty_iff (grammar_of t) (closed t (laid t accepted)))
 
   pub computed_recursive : x.left_recursive ≡ mask_of (recursive_rules (grammar_of t))
-  computed_recursive = recursive_mask t accepted (reported.left_recursive_lem accepted)
+  computed_recursive = recursive_mask t accepted (reported.left_rules accepted)

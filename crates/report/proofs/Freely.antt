@@ -1,4 +1,4 @@
--- A grammar is free exactly if no left_recursive_lem rule is among the reachable ones; and when the masks alone tell.
+-- A grammar is free exactly if no left-recursive rule is among the reachable ones; and when the masks alone tell.
 use mathlib.Core.Path.{◌≡◌, refl, sym, ◌∙◌}
 use mathlib.Core.Bool.{Bool, true, false, cond, false≢true}
 use mathlib.Core.List.{List}
@@ -28,7 +28,7 @@ module _ (g : Grammar) (good : Closed g) (left : ℕ) (l : LeftRules g left) whe
       (λ e. (free_iff g good).1 (record { none = λ a h r d. tells.0 e a (m.complete a h r) (l.complete a h d) }))
       (λ e. tells.1 (λ a p q. let w = m.sound a p in ((free_iff g good).0 e).none a w.0 w.1 (l.sound a q).1))
 
-  -- No rule is left_recursive_lem.
+  -- No rule is left-recursive.
   none_left : left ≡ 0 → (a : ℕ) → a < length g.roots → LeftRecursive g a → ⊥
   none_left e a h d = false≢true (sym (has_none a) ∙ rw e at (l.complete a h d))
 

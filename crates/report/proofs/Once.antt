@@ -14,7 +14,7 @@ use Rattle.report.specs.Report.{Reported}
 use Rattle.report.specs.Lent.{Answered}
 
 -- ---- The report.
-findings : (code place may_be_empty left_recursive_lem how_many_lem lowest : ℕ) (free : Bool) → Findings
+findings : (code place may_be_empty left_rules count_is lowest : ℕ) (free : Bool) → Findings
 findings c p m l n w f = record { code = c; place = p; may_be_empty = m; left_recursive = l; how_many = n; lowest = w; free = f }
 
 module _ {t : List ℕ} {x y : Findings} (p : Reported t x) (q : Reported t y) where
@@ -23,7 +23,7 @@ module _ {t : List ℕ} {x y : Findings} (p : Reported t x) (q : Reported t y) w
   by_masks m l f =
       let c : x.code ≡ y.code = p.code ∙ sym q.code in
       let at : x.place ≡ y.place = p.place ∙ sym q.place in
-      let n : x.how_many ≡ y.how_many = p.how_many_lem ∙ ap (λ k. how_many (has k) 64) l ∙ sym q.how_many_lem in
+      let n : x.how_many ≡ y.how_many = p.count_is ∙ ap (λ k. how_many (has k) 64) l ∙ sym q.count_is in
       let w : x.lowest ≡ y.lowest = p.lowest ∙ ap (λ k. least (has k) 64) l ∙ sym q.lowest in
       let all : findings x.code x.place x.may_be_empty x.left_recursive x.how_many x.lowest x.free
       ≡ findings y.code y.place y.may_be_empty y.left_recursive y.how_many y.lowest y.free = cc in
@@ -33,7 +33,7 @@ module _ {t : List ℕ} {x y : Findings} (p : Reported t x) (q : Reported t y) w
   unfolding Accepted
   by_code true e =
       let a = eqb-true (check_of t).code 0 e in
-      by_masks (one_mask (p.may_be_empty a) (q.may_be_empty a)) (one_mask (p.left_recursive_lem a) (q.left_recursive_lem a))
+      by_masks (one_mask (p.may_be_empty a) (q.may_be_empty a)) (one_mask (p.left_rules a) (q.left_rules a))
       (together x.free y.free (λ e. (q.free a).1 ((p.free a).0 e)) (λ e. (p.free a).1 ((q.free a).0 e)))
   by_code false e =
       let n = eqb-false (check_of t).code 0 e in
@@ -43,7 +43,7 @@ module _ {t : List ℕ} {x y : Findings} (p : Reported t x) (q : Reported t y) w
   one_report = by_code (eqb (check_of t).code 0) refl
 
 -- ---- The judgement.
-judgement : (left_recursive_lem : ℕ) (free : Bool) → Judgement
+judgement : (left_rules : ℕ) (free : Bool) → Judgement
 judgement l f = record { left_recursive = l; free = f }
 
 pub one_answer : {t before : List ℕ} {x y : Judgement} {v w : List ℕ} → Answered t x before v → Answered t y before w → (x ≡ y) × (v ≡ w)
@@ -52,4 +52,4 @@ one_answer {t} {before} p q =
     let a = p.used in
     let b = q.used in
     let told : a.told ≡ b.told = together a.told b.told (λ e. b.tells.1 (a.tells.0 e)) (λ e. a.tells.1 (b.tells.0 e)) in
-    (ap₂ judgement (one_mask p.left_recursive_lem q.left_recursive_lem) (p.free ∙ sym q.free), a.written ∙ rw told (sym b.written))
+    (ap₂ judgement (one_mask p.left_rules q.left_rules) (p.free ∙ sym q.free), a.written ∙ rw told (sym b.written))

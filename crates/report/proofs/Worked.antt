@@ -1,4 +1,4 @@
--- 01's sheets A and B. "Report: masks 0 and 1, one set, lowest 0" of A; B is "free", and is so with a left_recursive_lem rule that nobody uses.
+-- 01's sheets A and B. "Report: masks 0 and 1, one set, lowest 0" of A; B is "free", and is so with a left-recursive rule that nobody uses.
 -- By computing of their grammars what the contracts say of the code's answers.
 use mathlib.Core.Path.{◌≡◌, refl, sym, ap, ◌∙◌}
 use mathlib.Core.Bool.{Bool, true, false}
@@ -31,11 +31,11 @@ place : Verdict → ℕ
 place v = v.place
 
 -- Both masks of a grammar, how many are set in the second, the lowest, and whether it is free.
-record Shown (g : Grammar) (may_be_empty left_recursive_lem how_many_lem lowest : ℕ) (free : Bool) : Type 0 where
+record Shown (g : Grammar) (may_be_empty left_rules count_is lowest : ℕ) (free : Bool) : Type 0 where
   empties : mask_of (empty_rules g) ≡ may_be_empty
-  lefts : mask_of (recursive_rules g) ≡ left_recursive_lem
-  count : how_many (has left_recursive_lem) 64 ≡ how_many_lem
-  low : least (has left_recursive_lem) 64 ≡ lowest
+  lefts : mask_of (recursive_rules g) ≡ left_rules
+  count : how_many (has left_rules) 64 ≡ count_is
+  low : least (has left_rules) 64 ≡ lowest
   says_free : is_free g ≡ free
 
 shown : Shown sheetA 0 1 1 0 false × Shown sheetB 0 0 0 64 true × Shown sheet_unused 0 4 1 2 true
@@ -69,18 +69,18 @@ module _ (t : List ℕ) (g : Grammar) (accepted : check_of t ≡ verdict READ 0)
       reported.place ∙ ap place accepted,
       computed_empty reported is_accepted ∙ ap (λ h. mask_of (empty_rules h)) is ∙ s.empties,
       lefts_are,
-      reported.how_many_lem ∙ ap (λ h. how_many (has h) 64) lefts_are ∙ s.count,
+      reported.count_is ∙ ap (λ h. how_many (has h) 64) lefts_are ∙ s.count,
       reported.lowest ∙ ap (λ h. least (has h) 64) lefts_are ∙ s.low,
       free_is,
     )
 
   judged_is : {answer : Judgement} {before after : List ℕ} → Answered t answer before after → (answer.left_recursive ≡ l) × (answer.free ≡ f)
   judged_is answered = (
-    recursive_mask t is_accepted answered.left_recursive_lem ∙ ap (λ h. mask_of (recursive_rules h)) is ∙ s.lefts,
+    recursive_mask t is_accepted answered.left_rules ∙ ap (λ h. mask_of (recursive_rules h)) is ∙ s.lefts,
     answered.free ∙ ap is_free is ∙ s.says_free,
   )
 
--- A has a left_recursive_lem rule at its start, B has none, and the one that B has when a third rule is added is not reachable.
+-- A has a left-recursive rule at its start, B has none, and the one that B has when a third rule is added is not reachable.
 pub report_A : {x : Findings} → Reported tableA x
     → (x.code ≡ 0) × (x.place ≡ 0) × (x.may_be_empty ≡ 0) × (x.left_recursive ≡ 1) × (x.how_many ≡ 1) × (x.lowest ≡ 0) × (x.free ≡ false)
 report_A = report_is tableA sheetA sheets.0 (layout.sheets).1 shown.0

@@ -1,4 +1,4 @@
--- What is promised to a caller who asks which rules of a table are left_recursive_lem and whether it is free, and lends working numbers.
+-- What is promised to a caller who asks which rules of a table are left-recursive and whether it is free, and lends working numbers.
 use Rattle.std.specs.Prelude.{◌≡◌, Bool, true, cond, List, ◌↔◌, ℕ, ◌*◌, ◌<◌, ◌≤◌, length, get_or}
 use Rattle.meaning.specs.Grammar.{rule, Grammar, root}
 use Rattle.meaning.specs.Report.{Leads, LeftRecursive}
@@ -17,7 +17,7 @@ pub data AtStart (g : Grammar) : ℕ → Type 0 where
 abbrev pub StartRules : Grammar → ℕ → Type 0
 StartRules g = MaskOf (length g.roots) (AtStart g)
 
--- The masks alone tell whether the grammar is free: no rule is left_recursive_lem, or one at the start of rule 0 is.
+-- The masks alone tell whether the grammar is free: no rule is left-recursive, or one at the start of rule 0 is.
 pub data Told (g : Grammar) : Type 0 where
   by_none : ((a : ℕ) → a < length g.roots → LeftRecursive g a → ⊥) → Told g
   by_one : ¬ ((a : ℕ) → a < length g.roots → AtStart g a → LeftRecursive g a → ⊥) → Told g
@@ -37,8 +37,8 @@ pub record Used (t : List ℕ) (before after : List ℕ) : Type 0 where
   pub tells : (told ≡ true) ↔ Told (grammar_of t)
   pub written : after ≡ cond told (started_all t before) (used_all t before)
 
--- The mask of left_recursive_lem rules, and 02, W-202: "Free shall mean that no rule reachable from rule 0 [..] is left_recursive_lem". The answer, and the working numbers after it.
+-- The mask of left-recursive rules, and 02, W-202: "Free shall mean that no rule reachable from rule 0 [..] is left-recursive". The answer, and the working numbers after it.
 pub record Answered (t : List ℕ) (answer : Judgement) (before after : List ℕ) : Type 0 where
-  pub left_recursive_lem : LeftRules (grammar_of t) answer.left_recursive
+  pub left_rules : LeftRules (grammar_of t) answer.left_recursive
   pub free : answer.free ≡ is_free (grammar_of t)
   pub used : Used t before after

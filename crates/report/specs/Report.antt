@@ -1,4 +1,4 @@
--- 01, "The report", and 02's W-202: what it says of a table. Which rules may be empty, left_recursive_lem or reachable is said in meaning's Report.
+-- 01, "The report", and 02's W-202: what it says of a table. Which rules may be empty, left-recursive or reachable is said in meaning's Report.
 use Rattle.std.specs.Prelude.{◌≡◌, true, false, List, ◌↔◌, ℕ, length}
 use Rattle.bits.specs.Mask.{has, how_many, least}
 use Rattle.meaning.specs.Grammar.{Grammar}
@@ -8,7 +8,7 @@ use Rattle.empties.specs.Empties.{MaskOf, EmptyRules}
 use Rattle.sheet.specs.Check.{check_of, Accepted}
 use Rattle.report.specs.declared.Findings.{Findings}
 
--- 01: "a like mask of left_recursive_lem rules".
+-- 01: "a like mask of left-recursive rules".
 abbrev pub LeftRules : Grammar → ℕ → Type 0
 LeftRules g = MaskOf (length g.roots) (LeftRecursive g)
 
@@ -22,8 +22,8 @@ pub record Reported (t : List ℕ) (x : Findings) : Type 0 where
   pub code : x.code ≡ (check_of t).code
   pub place : x.place ≡ (check_of t).place
   pub may_be_empty : Accepted t → EmptyRules (grammar_of t) x.may_be_empty
-  pub left_recursive_lem : Accepted t → LeftRules (grammar_of t) x.left_recursive
-  pub how_many_lem : x.how_many ≡ how_many (has x.left_recursive) 64
+  pub left_rules : Accepted t → LeftRules (grammar_of t) x.left_recursive
+  pub count_is : x.how_many ≡ how_many (has x.left_recursive) 64
   pub lowest : x.lowest ≡ least (has x.left_recursive) 64
   pub free : Accepted t → (x.free ≡ true) ↔ Free (grammar_of t)
   pub refused : (Accepted t → ⊥) → (x.may_be_empty ≡ 0) × (x.left_recursive ≡ 0) × (x.how_many ≡ 0) × (x.lowest ≡ 64) × (x.free ≡ false)

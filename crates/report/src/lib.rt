@@ -1,4 +1,4 @@
-// The report on a table: which rules may be empty, which are left_recursive_lem, and whether the sheet is free (document 01, "The report", and 02's W-202).
+// The report on a table: which rules may be empty, which are left-recursive, and whether the sheet is free (document 01, "The report", and 02's W-202).
 //
 // `report` takes any bytes, asks nothing of its caller and writes nowhere. Of a table that the check refuses it gives the check's code and place.
 // `judge` asks for a table that is laid out well, for the marks of the nodes that may be empty (the crate `empties`), and for working numbers, as many as two
@@ -9,7 +9,7 @@
 // - Which nodes and rules may be empty is known once the check is made (`sheet::examine`).
 // - A pass goes once over the nodes, children first. Of each it puts down the rules that are used at its start, no rule's root gone into.
 // - That gives for each rule the rules at the start of its root. These sets are closed by turns through each rule. A rule that is in its own
-//   set is left_recursive_lem.
+//   set is left-recursive.
 // - A sheet is free if none of them is reachable from rule 0. Where there is none, or where rule 0 leads to one at its start, nothing more is worked out.
 //   Else one more pass puts down of each node the rules that it uses anywhere: those at its start if every node could be empty. Then rounds, from rule 0 on:
 //   the rules that a reachable rule's root uses are reachable.
@@ -26,7 +26,7 @@
 //   proofs/Standing    what is put down for a node, by the children that count: at its start, or all of them
 //   proofs/Recursion   what stands at a node's start is led to, and what is led to is in the closed sets
 //   proofs/Reaching    what a node uses anywhere, and that the rounds from rule 0 on find the reachable rules
-//   proofs/Freely      a sheet is free exactly if no left_recursive_lem rule is found to be reachable
+//   proofs/Freely      a sheet is free exactly if no left-recursive rule is found to be reachable
 
 ghost use Rattle.std.specs.Prelude.{◌≡◌, true, ℕ, ◌+◌, ◌*◌, ◌<◌, ◌≤◌, length, get_or};
 ghost use Rattle.bits.specs.Mask.{has};
@@ -43,8 +43,8 @@ ghost use Rattle.report.specs.Lent.{StartRules, Judged, Answered};
 // How many working numbers `judge` asks for.
 pub const SCRATCH: usize = 2 * layout::MOST_NODES;
 
-// What the report gives: 01's code and place, the rules whose root may be empty and those that are left_recursive_lem (bit i for rule i),
-// how many of the second there are, and the lowest of them, 64 if there is none; and whether no rule that rule 0 reaches is left_recursive_lem.
+// What the report gives: 01's code and place, the rules whose root may be empty and those that are left-recursive (bit i for rule i),
+// how many of the second there are, and the lowest of them, 64 if there is none; and whether no rule that rule 0 reaches is left-recursive.
 #[derive(Drop)]
 pub struct Findings {
     pub code: usize,
@@ -56,7 +56,7 @@ pub struct Findings {
     pub free: bool,
 }
 
-// What the reader is told: the left_recursive_lem rules, as in the report, and whether none of them is reachable from rule 0.
+// What the reader is told: the left-recursive rules, as in the report, and whether none of them is reachable from rule 0.
 #[derive(Drop)]
 pub struct Judgement {
     pub left_recursive: u64,
@@ -210,7 +210,7 @@ fn led_back(to: &[u64; 64], r: usize) -> u64
     found
 }
 
-// The left_recursive_lem rules and those at the start of rule 0, by the last pass.
+// The left-recursive rules and those at the start of rule 0, by the last pass.
 fn chains(table: &[u8], scratch: &[u32]) -> Led
     requires { Laid table.now × (2 * most_nodes ≤ length scratch.now) × Settled (grammar_of table.now) (empty_node table.now) (starts_at scratch.now) }
     ensures { LeftRules (grammar_of table.now) result.left_recursive × StartRules (grammar_of table.now) result.at_start }
@@ -226,7 +226,7 @@ fn chains(table: &[u8], scratch: &[u32]) -> Led
     }
 }
 
-// The left_recursive_lem rules and those at the start of rule 0, by the nodes that are marked as empty.
+// The left-recursive rules and those at the start of rule 0, by the nodes that are marked as empty.
 fn masks(table: &[u8], scratch: &mut [u32], marks: &[u64; 8]) -> Led
     requires { Laid table.now × EmptyNodes (grammar_of table.now) marks.now × (2 * most_nodes ≤ length scratch.old) }
     ensures { LeftRules (grammar_of table.now) result.left_recursive × StartRules (grammar_of table.now) result.at_start × (scratch.new ≡ started_all table.now scratch.old) }
@@ -275,7 +275,7 @@ fn reachable_rules(table: &[u8], scratch: &[u32], some: u64) -> u64
     found
 }
 
-// Whether no left_recursive_lem rule is reachable. Where there is none, or one stands at the start of rule 0, the working numbers stay.
+// Whether no left-recursive rule is reachable. Where there is none, or one stands at the start of rule 0, the working numbers stay.
 fn none_reached(table: &[u8], scratch: &mut [u32], left_recursive: u64, at_start: u64) -> bool
     requires { Laid table.now × (2 * most_nodes ≤ length scratch.old) × LeftRules (grammar_of table.now) left_recursive × StartRules (grammar_of table.now) at_start }
     ensures { Judged table.now result scratch.old scratch.new }
@@ -322,7 +322,7 @@ pub fn report(table: &[u8]) -> Findings
     }
 }
 
-// Which rules of a table are left_recursive_lem, and whether none of them is reachable, for a caller who has the nodes that may be empty and lends working numbers.
+// Which rules of a table are left-recursive, and whether none of them is reachable, for a caller who has the nodes that may be empty and lends working numbers.
 pub fn judge(table: &[u8], scratch: &mut [u32], marks: &[u64; 8]) -> Judgement
     requires { Laid table.now × EmptyNodes (grammar_of table.now) marks.now × (2 * most_nodes ≤ length scratch.old) }
     ensures { Answered table.now result scratch.old scratch.new }

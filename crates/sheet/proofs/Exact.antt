@@ -1,4 +1,4 @@
--- The check gives each code exactly where its row says, at that row's place; and accepts exactly the well_formed tables.
+-- The check gives each code exactly where its row says, at that row's place; and accepts exactly the well-formed tables.
 use mathlib.Core.Path.{◌≡◌, refl, sym, ap, subst, ◌∙◌}
 use mathlib.Core.Logic.{◌↔◌, ◌≢◌, ◌⊎◌, inl, inr}
 use mathlib.Core.Bool.{Bool, true, false}
@@ -82,7 +82,7 @@ module _ (t : List ℕ) where
       most (inl h) = omega arith
       most (inr e) = omega arith
 
-  -- The code 0 is given to a well_formed table only.
+  -- The code 0 is given to a well-formed table only.
   of_read : {code place : ℕ} → Given t code place → code ≡ READ → WellFormed t
   of_read (laid_out g n) e = absurd (n e)
   of_read (loop w l before d) e = absurd (omega arith)

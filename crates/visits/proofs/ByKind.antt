@@ -134,7 +134,7 @@ range_ends given line {w} spot i r ready kind range is =
       came = came_at given line ready.fit.short (end_in r) (list_in r) (top_in reached) (made_in reached) range.0 range.1 top made
           (apply_range given line ready.fit (left_in spot) i (pos_in spot) ready.node_in ready.words ready.made_within few kind);
       cells = omega (arith, top, made);
-      ahead = λ p. rw range.0 (byte_ahead (pos_in spot) _ (omega (arith, ready.pos_in_lem, ready.fit.short)));
+      ahead = λ p. rw range.0 (byte_ahead (pos_in spot) _ (omega (arith, ready.pos_within, ready.fit.short)));
     })
 
 -- Whether answers are kept, by the number that says so.

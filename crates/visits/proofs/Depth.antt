@@ -62,7 +62,7 @@ module _ (given : Given) (line : List ℕ) where
         let b : top_in counted ≡ top_in w = written_top given line 2043 (omega arith) (omega arith) w (made_in w + 1) in
         let c : made_in counted ≡ made_in w + 1 = count_made given line w (made_in w + 1) long in
         let u = (written_same given line 2043 (omega arith) (omega arith) w (made_in w + 1) {live = live_in spot} {top = 0} few).turns in
-        rw (a, b, c) (record { fit = ready.fit; words = counted_words; node_in = ready.node_in; pos_in_lem = ready.pos_in_lem; open_in = omega arith; made_within = omega arith; top_within = omega arith; order = λ p. order_same given line {top = 0} (written_same given line 2043 (omega arith) (omega arith) w (made_in w + 1) few) (omega arith) (ready.order p) })
+        rw (a, b, c) (record { fit = ready.fit; words = counted_words; node_in = ready.node_in; pos_within = ready.pos_within; open_in = omega arith; made_within = omega arith; top_within = omega arith; order = λ p. order_same given line {top = 0} (written_same given line 2043 (omega arith) (omega arith) w (made_in w + 1) few) (omega arith) (ready.order p) })
 
     module _ {w' : List ℕ} {m : List Note → State → Run} (r : ℕ) (e : Ends given line counted w' (spot - 1) r m) where
       pub came_open : Came given line counted w' (live_in spot) (made_in w + 1) (top_in w) (after_visit r w') m

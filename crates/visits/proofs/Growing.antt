@@ -141,7 +141,7 @@ module _ (given : Given) (line : List ℕ) (fit : Fit given line) (v : List Note
           words = rw et n.words;
           end_most = most;
           end_within = ei;
-          list_in_lem = λ z. let y = li z in omega arith;
+          list_within = λ z. let y = li z in omega arith;
           top_up = omega arith;
           made_up = omega arith;
           made_within = omega arith;
@@ -149,7 +149,7 @@ module _ (given : Given) (line : List ℕ) (fit : Fit given line) (v : List Note
         }
 
     pub out_stop : next.end ≡ STOPPED → Came given line w₀ w₂ live made₀ top₀ next whole
-    out_stop e = way_out refl refl n.end_most n.end_within n.list_in_lem (λ l f s st le. grow_stop w₂ live l next end (kids (trees_at w top)) f s le (n.says l s st) e)
+    out_stop e = way_out refl refl n.end_most n.end_within n.list_within (λ l f s st le. grow_stop w₂ live l next end (kids (trees_at w top)) f s le (n.says l s st) e)
 
     pub out_held : (next.end ≡ FAILED) ⊎ (next.end ≤ end) → Came given line w₀ w₂ live made₀ top₀ (result end top next.top next.made) whole
     out_held c =

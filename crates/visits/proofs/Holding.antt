@@ -40,6 +40,6 @@ module _ (given : Given) (line w : List ℕ) (spot root rule pos found r : ℕ) 
         (uses_grows given line ready.fit (left_in spot) rule pos plain growing (held_match given line ready.fit (reading given line (left_in spot)) rule pos (found - 1) ready.words ready.made_within small live (search.is some) n)));
     cells = omega arith;
     ahead = λ p. by_same (get_or w ((found - 1) * 3 + 2) 0) 0
-        (λ e. omega (arith, (holds.failed e).0, there, ready.pos_in_lem, ready.fit.short))
+        (λ e. omega (arith, (holds.failed e).0, there, ready.pos_within, ready.fit.short))
         (λ n. omega (arith, (holds.matched n).0, there, (ready.order p).ahead (found - 1) live n, search.is some));
   }

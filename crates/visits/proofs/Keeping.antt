@@ -160,7 +160,7 @@ module _ (given : Given) (line : List ℕ) where
         words = keep_words;
         end_most = most;
         end_within = e;
-        list_in_lem = λ z. lists;
+        list_within = λ z. lists;
         top_up = omega arith;
         made_up = omega arith;
         made_within = le;
@@ -184,7 +184,7 @@ module _ (given : Given) (line : List ℕ) where
     unfolding keep kept_as
     keep_match e =
         let inside = c.end_within e in
-        let below = c.list_in_lem e in
+        let below = c.list_within e in
         let two : end + 2 ≡ suc (suc end) = omega arith in
         then_match given line fit.short (λ l. keep i x) c e
         (keep_came fit c.words free few low i x li lx (end + 2) list (omega arith) below end _ c.made_within c.end_most (λ z. inside)

@@ -28,8 +28,8 @@ module _ (given : Given) (line : List ℕ) (left i : ℕ) where
   -- The loop, from the words, position, visits and top with which it began, at those it has now; n turns wait.
   pub record KeptRow (live : ℕ) (w₀ : List ℕ) (x₀ made₀ top₀ : ℕ) (w : List ℕ) (x n made top : ℕ) : Type 0 where
     pub words : Words given line w live top
-    pub turns_in_lem : turns_in w ≡ n
-    pub pos_in_lem : x ≤ length line
+    pub turns_within : turns_in w ≡ n
+    pub pos_within : x ≤ length line
     pub made_within : made ≤ allowance_in given
     pub cells : top + n + made₀ ≤ top₀ + turns_in w₀ + made
     pub turns : List Turn
@@ -51,8 +51,8 @@ module _ (given : Given) (line : List ℕ) (fit : Fit given line) (left i : ℕ)
   pub kept_begins : {w : List ℕ} {x made top : ℕ} → Words given line w live top → x ≤ length line → made ≤ allowance_in given → KeptRow given line left i live w x made top w x (turns_in w) made top
   kept_begins {w} {x} {made} {top} words inside le = record {
     words = words;
-    turns_in_lem = refl;
-    pos_in_lem = inside;
+    turns_within = refl;
+    pos_within = inside;
     made_within = le;
     cells = omega arith;
     turns = [];
@@ -70,7 +70,7 @@ module _ (given : Given) (line : List ℕ) (fit : Fit given line) (left i : ℕ)
     least = waiting_least given line w top b n g.turns g.waiting
 
     turns_now : turns_in w₁ ≡ n
-    turns_now = A.same.turns ∙ g.turns_in_lem
+    turns_now = A.same.turns ∙ g.turns_within
 
     pub room : a.top + turns_in w₁ ≤ a.made
     room = let c = g.cells in let t = turns_now in omega arith
@@ -80,19 +80,19 @@ module _ (given : Given) (line : List ℕ) (fit : Fit given line) (left i : ℕ)
 
     -- The child's visit, over lowered words.
     below : Came given line (lowered w b) (lowered w₁ b) live made top a (λ l s. reading given line left l (a_in given i) x s)
-    below = low_came given line b few fit g.words (omega (arith, least, g.turns_in_lem)) A
+    below = low_came given line b few fit g.words (omega (arith, least, g.turns_within)) A
 
     pub waiting_now : Waiting given line w₁ a.top b n g.turns
-    waiting_now = waiting_same given line w w₁ top a.top n few_turns A.same.cells A.top_up (λ j low p q. A.same.waiting j low (omega (arith, g.turns_in_lem)) q) b n g.turns (omega arith) g.waiting
+    waiting_now = waiting_same given line w w₁ top a.top n few_turns A.same.cells A.top_up (λ j low p q. A.same.waiting j low (omega (arith, g.turns_within)) q) b n g.turns (omega arith) g.waiting
 
     -- The child was refused: so is the row.
     pub kept_refused : a.end ≡ STOPPED → Came given line w₀ (lowered w₁ b) live made₀ top₀ a (λ l s. applies given line left l i x₀ s)
-    kept_refused h = g.rest (stopped given line fit.short (λ l. going_back i g.turns x) (row_stop given line fit left i li kind x g.pos_in_lem below h) h)
+    kept_refused h = g.rest (stopped given line fit.short (λ l. going_back i g.turns x) (row_stop given line fit left i li kind x g.pos_within below h) h)
 
     -- The row ends here: this is what it comes to before it is gone back over.
     pub kept_ends : (a.end ≡ FAILED) ⊎ (a.end ≡ x) → Came given line (lowered w b) (lowered w₁ b) live made top (result x 0 a.top a.made) (λ l s. applies given line left l i x s)
-    kept_ends (inl h) = row_none given line fit left i li kind x g.pos_in_lem below h
-    kept_ends (inr h) = row_empty given line fit left i li kind x g.pos_in_lem below h
+    kept_ends (inl h) = row_none given line fit left i li kind x g.pos_within below h
+    kept_ends (inr h) = row_empty given line fit left i li kind x g.pos_within below h
 
     module _ (h : a.end < STOPPED) (ne : a.end ≢ x) where
       -- The child's trees.
@@ -102,7 +102,7 @@ module _ (given : Given) (line : List ℕ) (fit : Fit given line) (left i : ℕ)
       pub kept_effort : allowance_in given ≤ a.made → Came given line w₀ (lowered w₁ b) live made₀ top₀ (result STOPPED (11 * 4096 + a.end) a.top a.made) (λ l s. applies given line left l i x₀ s)
       kept_effort full =
           g.rest (stopped given line fit.short (λ l. going_back i g.turns x)
-          (row_on given line fit left i li kind x g.pos_in_lem below h ne (turn_effort given line fit left i li kind a.end (joined ts) below.words A.made_within (A.end_within h) full)) refl)
+          (row_on given line fit left i li kind x g.pos_within below h ne (turn_effort given line fit left i li kind a.end (joined ts) below.words A.made_within (A.end_within h) full)) refl)
 
       -- The next visit is counted.
       module _ (lt : a.made < allowance_in given) where
@@ -123,14 +123,14 @@ module _ (given : Given) (line : List ℕ) (fit : Fit given line) (left i : ℕ)
 
         trees_lowered : trees_at counted a.list ≡ ts
         trees_lowered =
-            alike_trees given line (written_alike given line 2043 (omega arith) (omega arith) w₁ (a.made + 1) {live = live} few) a.list (A.list_in_lem h)
-            ∙ sym (alike_trees given line (written_alike given line 2041 (omega arith) (omega arith) w₁ b {live = live} few) a.list (A.list_in_lem h))
+            alike_trees given line (written_alike given line 2043 (omega arith) (omega arith) w₁ (a.made + 1) {live = live} few) a.list (A.list_within h)
+            ∙ sym (alike_trees given line (written_alike given line 2041 (omega arith) (omega arith) w₁ b {live = live} few) a.list (A.list_within h))
 
         -- An answer is kept for it: this is what the row comes to before it is gone back over.
         module _ {w₂ : List ℕ} {r : Visited} (c : Came given line counted w₂ live (a.made + 1) a.top r (λ l s. after (opens given line left l i a.end s) (joined (trees_at counted a.list)))) where
           pub kept_found : Came given line (lowered w b) (lowered w₂ b) live made top r (λ l s. applies given line left l i x s)
           kept_found =
-              row_on given line fit left i li kind x g.pos_in_lem below h ne
+              row_on given line fit left i li kind x g.pos_within below h ne
               (turn_open given line fit left i li kind a.end (joined ts) below.words lt few
               (rw swapped (came_as given line fit.short _ (low_came given line b few fit counted_words (omega (arith, least, counted_turns)) c)
               (λ l s. ap (λ us. after (opens given line left l i a.end s) (joined us)) trees_lowered))))
@@ -169,7 +169,7 @@ module _ (given : Given) (line : List ℕ) (fit : Fit given line) (left i : ℕ)
           goes_on : {w' : List ℕ} {r : Visited} → Came given line (lowered put b) w' live (a.made + 1) a.top r (λ l s. after (applies given line left l i a.end s) (going_back i (turn ∷ g.turns) a.end))
               → Came given line w₀ w' live made₀ top₀ r (λ l s. applies given line left l i x₀ s)
           goes_on c =
-              g.rest (row_turn given line fit left i li kind x g.pos_in_lem below h ne (going_back i g.turns x)
+              g.rest (row_turn given line fit left i li kind x g.pos_within below h ne (going_back i g.turns x)
               (turn_open given line fit left i li kind a.end then_back below.words lt few
               (rw swapped (came_when given line fit.short _ (unturned c) (λ l s st. ap (λ m. after m then_back) (opens_new a.end (A.end_within h) new_lowered l s st))))))
 
@@ -190,7 +190,7 @@ module _ (given : Given) (line : List ℕ) (fit : Fit given line) (left i : ℕ)
           put_list = get_or-set_other turned 2041 (turn_at given (n + 1) + 1) (n + 1) 0 (omega (arith, low)) ∙ turned_list given line counted (n + 1) x a.list few (omega arith) (omega (arith, low)) counted_words
 
           put_trees : trees_at put a.list ≡ ts
-          put_trees = trees_same w₁ put a.top a.list put_cells (A.list_in_lem h) ∙ sym (alike_trees given line (written_alike given line 2041 (omega arith) (omega arith) w₁ b {live = live} few) a.list (A.list_in_lem h))
+          put_trees = trees_same w₁ put a.top a.list put_cells (A.list_within h) ∙ sym (alike_trees given line (written_alike given line 2041 (omega arith) (omega arith) w₁ b {live = live} few) a.list (A.list_within h))
 
           pub kept_turns : KeptRow given line left i live w₀ x₀ made₀ top₀ put a.end (n + 1) (a.made + 1) a.top
           kept_turns =
@@ -199,8 +199,8 @@ module _ (given : Given) (line : List ℕ) (fit : Fit given line) (left i : ℕ)
               let long = turned_long given line counted (n + 1) x a.list few (omega arith) (omega (arith, low)) counted_words in
               record {
                 words = low_words given line (n + 1) few (turned_words given line counted (n + 1) x a.list few (omega arith) (omega (arith, low)) counted_words);
-                turns_in_lem = get_or-set_same turned 2041 (n + 1) 0 (omega arith);
-                pos_in_lem = A.end_within h;
+                turns_within = get_or-set_same turned 2041 (n + 1) 0 (omega arith);
+                pos_within = A.end_within h;
                 made_within = omega arith;
                 cells = omega arith;
                 turns = turn ∷ g.turns;
@@ -209,8 +209,8 @@ module _ (given : Given) (line : List ℕ) (fit : Fit given line) (left i : ℕ)
                   refl,
                   record {
                     pos = get_or-set_other turned 2041 (turn_at given (n + 1)) (n + 1) 0 (omega (arith, low)) ∙ turned_pos given line counted (n + 1) x a.list few (omega arith) (omega (arith, low)) counted_words;
-                    inside = g.pos_in_lem;
-                    below = omega (arith, put_list, A.list_in_lem h);
+                    inside = g.pos_within;
+                    below = omega (arith, put_list, A.list_within h);
                     trees = rw put_list put_trees;
                   },
                   older,

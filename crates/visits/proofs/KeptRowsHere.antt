@@ -36,7 +36,7 @@ module _ (given : Given) (line : List ℕ) (spot i : ℕ) (w₀ : List ℕ) (rea
   few = omega arith
 
   pub begins : KeptRowIn given line spot i w₀ w₀ (pos_in spot) (turns_in w₀)
-  begins = kept_begins given line ready.fit (left_in spot) i ready.node_in kind free few ready.words ready.pos_in_lem ready.made_within
+  begins = kept_begins given line ready.fit (left_in spot) i ready.node_in kind free few ready.words ready.pos_within ready.made_within
 
   module _ {w : List ℕ} {x n : ℕ} (g : KeptRowIn given line spot i w₀ w x n) where
     -- The child may be visited.
@@ -45,10 +45,10 @@ module _ (given : Given) (line : List ℕ) (spot i : ℕ) (w₀ : List ℕ) (rea
       fit = ready.fit;
       words = g.words;
       node_in = inside;
-      pos_in_lem = g.pos_in_lem;
+      pos_within = g.pos_within;
       open_in = ready.open_in;
       made_within = g.made_within;
-      top_within = omega (arith, ready.top_within, g.cells, g.turns_in_lem);
+      top_within = omega (arith, ready.top_within, g.cells, g.turns_within);
       order = λ p. clash free p;
     }
 
@@ -63,11 +63,11 @@ module _ (given : Given) (line : List ℕ) (spot i : ℕ) (w₀ : List ℕ) (rea
         few = omega (arith, m.live);
         free = free;
         node_in = ready.node_in;
-        pos_in_lem = rw m.there g.pos_in_lem;
+        pos_within = rw m.there g.pos_within;
         end_most = most;
         end_is = on;
         end_within = inside;
-        list_in_lem = below;
+        list_within = below;
         room = omega (arith, turns, cells, made, ready.top_within);
         turns = g.turns;
         waiting = rw turns waiting;
@@ -83,7 +83,7 @@ module _ (given : Given) (line : List ℕ) (spot i : ℕ) (w₀ : List ℕ) (rea
     -- The child was visited.
     module _ {w₁ : List ℕ} (a : ℕ) (A : Visits given line w w₁ (live_in spot) x (made_in w) (top_in w) (after_visit a w₁) (λ l s. reading given line (left_in spot) l (a_in given i) x s)) where
       turns_now : turns_in w₁ ≡ n
-      turns_now = A.came.same.turns ∙ g.turns_in_lem
+      turns_now = A.came.same.turns ∙ g.turns_within
 
       cells_now : top_in w₁ + n + made_in w₀ ≤ top_in w₀ + turns_in w₀ + made_in w₁
       cells_now = omega (arith, g.cells, A.cells)
@@ -119,7 +119,7 @@ module _ (given : Given) (line : List ℕ) (spot i : ℕ) (w₀ : List ℕ) (rea
 
         pub end_ready : Returns given line w₁ there i (turns_in w₀) r
         end_ready =
-            let p = g.pos_in_lem in
+            let p = g.pos_within in
             let s = ready.fit.short in
             may_return r there m last_came A.came.words turns_now cells_now A.came.made_within waits (λ z. absurd (omega arith)) (omega arith) (λ z. omega arith) (omega arith)
 
@@ -173,7 +173,7 @@ module _ (given : Given) (line : List ℕ) (spot i : ℕ) (w₀ : List ℕ) (rea
             fit = ready.fit;
             words = rw top₂ words₂;
             node_in = ready.node_in;
-            pos_in_lem = inside;
+            pos_within = inside;
             open_in = ready.open_in;
             made_within = omega (arith, made₂);
             top_within = omega (arith, cells_now, ready.top_within, top₂, made₂, still_turns);
@@ -197,7 +197,7 @@ module _ (given : Given) (line : List ℕ) (spot i : ℕ) (w₀ : List ℕ) (rea
                 → (Arena counted (top_in counted) × ((left ≤ top_in counted) × (right ≤ top_in counted))) × ((2048 + 4 * top_in counted + 3 < length counted) × (top_in counted < 1073741823))
             join_ready left right e f =
                 let p = pair_list in
-                let l = A.came.list_in_lem h in
+                let l = A.came.list_within h in
                 ((rw top₂ words₂.arena, (omega (arith, top₂), omega arith)), room_tree given line ready.fit starts₂.words low₂)
 
             module _ {w₃ : List ℕ} (both : ℕ) (e : end_in both ≡ end_in rest) (d : Added counted w₃ (top_in counted) (list_in both) (top_in w₃) (trees_at counted (list_in a) ⋈ trees_at counted (list_in rest))) (there : ℕ) (m : Moved spot x there) where

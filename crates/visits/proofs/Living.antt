@@ -234,7 +234,7 @@ module _ (given : Given) (line : List ℕ) (fit : Fit given line) where
     words = drop_words c.words;
     end_most = c.end_most;
     end_within = c.end_within;
-    list_in_lem = c.list_in_lem;
+    list_within = c.list_within;
     top_up = c.top_up;
     made_up = c.made_up;
     made_within = c.made_within;

@@ -70,11 +70,11 @@ module _ (given : Given) (line : List ℕ) (n : ℕ) {live : ℕ} (few : live * 
     words = low_words c.words;
     end_most = c.end_most;
     end_within = c.end_within;
-    list_in_lem = c.list_in_lem;
+    list_within = c.list_within;
     top_up = c.top_up;
     made_up = c.made_up;
     made_within = c.made_within;
-    says = λ l s st. low_says l a (m l s) c.words c.list_in_lem c.end_within fit.short (c.says l s (raise l s st));
+    says = λ l s st. low_says l a (m l s) c.words c.list_within c.end_within fit.short (c.says l s (raise l s st));
   }
     where
       raise : (l : List Note) (s : State) → Stands given line (lowered w n) live made l s → Stands given line w live made l s

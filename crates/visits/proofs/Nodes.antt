@@ -46,7 +46,7 @@ module _ (given : Given) (line : List ℕ) (fit : Fit given line) where
       words = made_words given line fit few low d h;
       end_most = omega arith;
       end_within = λ z. absurd (omega arith);
-      list_in_lem = λ z. d.within;
+      list_within = λ z. d.within;
       top_up = d.rise;
       made_up = omega arith;
       made_within = le;
@@ -86,7 +86,7 @@ module _ (given : Given) (line : List ℕ) (fit : Fit given line) where
             → Added w₂ w₃ b.top list top' (trees_at w₂ a.list ⋈ trees_at w₂ b.list) → Came given line w₀ w₃ live made top (result b.end list top' b.made) sequence
         unfolding second joined
         seq_join g few low {w₃} {list} {top'} m =
-            let e : trees_at w₂ a.list ≡ trees_at w₁ a.list = same_trees given line B.same a.list (A.list_in_lem h) in
+            let e : trees_at w₂ a.list ≡ trees_at w₁ a.list = same_trees given line B.same a.list (A.list_within h) in
             let n : Added w₂ w₃ b.top list top' (trees_at w₁ a.list ⋈ trees_at w₂ b.list) = rw e at m in
             then_match given line fit.short (λ l. second (v l) y) A h
             (then_match given line fit.short (λ l. joined (trees_at w₁ a.list)) B g

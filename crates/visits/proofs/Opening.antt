@@ -25,7 +25,7 @@ roomy given line w i x fit free room li lx =
     let n = (well_laid given.table fit.laid).few_nodes in
     let e = fit.each free in
     let l = fit.short in
-    record { each = omega arith; allowance = fit.allowance; node_in = omega arith; pos_in_lem = omega arith; room = omega arith }
+    record { each = omega arith; allowance = fit.allowance; node_in = omega arith; pos_within = omega arith; room = omega arith }
 
 -- A visit that is counted and open, from the words w, where answers are kept.
 module _ (given : Given) (line w : List ℕ) (spot node pos : ℕ) (ready : Starts given line w spot node pos) (room : live_in spot + left_in spot ≤ 512) (free : keeps_in given ≡ true) (w₁ : List ℕ) (is : w₁ ≡ w) (r : ℕ) where
@@ -40,10 +40,10 @@ module _ (given : Given) (line w : List ℕ) (spot node pos : ℕ) (ready : Star
   still_open end list e f c = rw is (record { came = came_at given line ready.fit.short (end_in r) (list_in r) (top_in w) (made_in w) e f refl refl c; cells = omega arith; ahead = λ p. clash free p })
 
   kept_failure : word ≡ 1 → end_in r ≡ FAILED → list_in r ≡ 0 → Ends given line w w₁ spot r (λ l s. opens given line (left_in spot) l node pos s)
-  kept_failure k e f = still_open FAILED 0 e f (visited_fail given line ready.fit (reading given line (left_in spot)) (reading given line (suc (left_in spot))) node pos ready.node_in ready.pos_in_lem ready.words free ready.made_within k)
+  kept_failure k e f = still_open FAILED 0 e f (visited_fail given line ready.fit (reading given line (left_in spot)) (reading given line (suc (left_in spot))) node pos ready.node_in ready.pos_within ready.words free ready.made_within k)
 
   kept_match : 1 < word → end_in r ≡ word - 2 → list_in r ≡ get_or w (place_in given node pos + 1) 0 → Ends given line w w₁ spot r (λ l s. opens given line (left_in spot) l node pos s)
-  kept_match k e f = still_open _ _ e f (visited_match given line ready.fit (reading given line (left_in spot)) (reading given line (suc (left_in spot))) node pos ready.node_in ready.pos_in_lem ready.words free ready.made_within (word - 2) (omega arith))
+  kept_match k e f = still_open _ _ e f (visited_match given line ready.fit (reading given line (left_in spot)) (reading given line (suc (left_in spot))) node pos ready.node_in ready.pos_within ready.words free ready.made_within (word - 2) (omega arith))
 
   pub kept_answered : (n : ℕ) → n ≡ word → n ≢ 0 → KeptAnswer (lent [] given.numbers) w node pos n r → Ends given line w w₁ spot r (λ l s. opens given line (left_in spot) l node pos s)
   kept_answered n e some k = by_same n 1 (λ one. kept_failure (sym e ∙ one) (k.failed one).0 (k.failed one).1)
@@ -68,7 +68,7 @@ module _ (given : Given) (line w : List ℕ) (spot node pos : ℕ) (ready : Star
         let c = e.cells in
         record {
           came = came_at given line ready.fit.short (end_in r) (list_in r) (top_in w₃) (made_in w₃) refl refl top_kept made_kept
-              (applied_kept given line ready.fit (reading given line (left_in spot)) (reading given line (suc (left_in spot))) node pos ready.node_in ready.pos_in_lem ready.words free ready.made_within none e.came few (omega arith) k);
+              (applied_kept given line ready.fit (reading given line (left_in spot)) (reading given line (suc (left_in spot))) node pos ready.node_in ready.pos_within ready.words free ready.made_within none e.came few (omega arith) k);
           cells = omega (arith, top_kept, made_kept);
           ahead = e.ahead;
         }
@@ -111,7 +111,7 @@ module _ (given : Given) (line w : List ℕ) (spot node : ℕ) (ready : Starts g
 pub plain_opens : (given : Given) (line w : List ℕ) (spot node pos : ℕ) → Starts given line w spot node pos → keeps_in given ≡ false → (w' : List ℕ) (r : ℕ)
     → Ends given line w w' spot r (λ l s. applies given line (left_in spot) l node pos s) → Ends given line w w' spot r (λ l s. opens given line (left_in spot) l node pos s)
 plain_opens given line w spot node pos ready plain w' r e = record {
-  came = visited_plain given line ready.fit (reading given line (left_in spot)) (reading given line (suc (left_in spot))) node pos ready.node_in ready.pos_in_lem plain e.came;
+  came = visited_plain given line ready.fit (reading given line (left_in spot)) (reading given line (suc (left_in spot))) node pos ready.node_in ready.pos_within plain e.came;
   cells = e.cells;
   ahead = e.ahead;
 }
@@ -123,7 +123,7 @@ module _ (given : Given) (line w : List ℕ) (spot node pos : ℕ) (ready : Star
       let is : code ≡ 11 = h.1 in
       rw h.2 (record {
         came = came_at given line ready.fit.short (end_in r) (list_in r) (top_in w) (made_in w) e (f ∙ ap (λ c. c * 4096 + pos) is) refl refl
-            (enter_effort given line ready.fit (left_in spot) node pos ready.words ready.made_within ready.pos_in_lem h.0);
+            (enter_effort given line ready.fit (left_in spot) node pos ready.words ready.made_within ready.pos_within h.0);
         cells = omega arith;
         fewer = λ z. absurd (omega arith);
         ahead = λ p. rw e low;
@@ -132,7 +132,7 @@ module _ (given : Given) (line w : List ℕ) (spot node pos : ℕ) (ready : Star
       let is : code ≡ 12 = h.2 in
       rw h.3 (record {
         came = came_at given line ready.fit.short (end_in r) (list_in r) (top_in w) (made_in w) e (f ∙ ap (λ c. c * 4096 + pos) is) refl refl
-            (enter_deep given line ready.fit (left_in spot) node pos ready.words ready.made_within ready.pos_in_lem h.0 h.1);
+            (enter_deep given line ready.fit (left_in spot) node pos ready.words ready.made_within ready.pos_within h.0 h.1);
         cells = omega arith;
         fewer = λ z. absurd (omega arith);
         ahead = λ p. rw e low;

@@ -66,8 +66,8 @@ module _ (given : Given) (line : List ℕ) {w₀ w₁ : List ℕ} (spot x pos a 
             let t = low in
             let m = ready.fit.allowance in
             let u = next.came.top_up in
-            let v = first.came.list_in_lem less in
-            let w = next.came.list_in_lem reached in
+            let v = first.came.list_within less in
+            let w = next.came.list_within reached in
             let z = next.came.words.room in
             ((next.came.words.arena, (omega arith, omega arith)), (omega arith, omega arith))
 

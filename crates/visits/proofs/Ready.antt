@@ -25,7 +25,7 @@ module _ {given : Given} {line : List ℕ} where
   ready_next y end r c cells ly inside up =
       let t = r.top_within in
       let u = c.same.turns in
-      record { fit = r.fit; words = c.words; node_in = ly; pos_in_lem = inside; open_in = r.open_in; made_within = c.made_within; top_within = omega arith; order = λ p. order_same given line c.same (up p) (r.order p) }
+      record { fit = r.fit; words = c.words; node_in = ly; pos_within = inside; open_in = r.open_in; made_within = c.made_within; top_within = omega arith; order = λ p. order_same given line c.same (up p) (r.order p) }
 
   pub ready_live : {w w' : List ℕ} {left live made top root pos : ℕ} (rule end list : ℕ) → Ready given line w left live made top root pos → live + left ≤ 512 → end ≤ length line → list ≤ top
       → rule < 64 → (keeps_in given ≡ false → list ≢ 0 → pos ≤ end) → w' ≡ use_put w (live * 3) (key_of rule pos) end list → Ready given line w' left (live + 1) made top root pos
@@ -33,7 +33,7 @@ module _ {given : Given} {line : List ℕ} where
     fit = r.fit;
     words = live_words given line r.fit rule pos end list r.words (omega arith) inside below;
     node_in = r.node_in;
-    pos_in_lem = r.pos_in_lem;
+    pos_within = r.pos_within;
     open_in = omega arith;
     made_within = r.made_within;
     top_within = let t = r.top_within in let u = (live_same given line r.fit rule pos end list r.words (omega arith) inside below).turns in omega arith;
@@ -46,7 +46,7 @@ module _ {given : Given} {line : List ℕ} where
   ready_loop r le order g =
       let c = g.cells in
       let u = g.same.turns in
-      record { fit = r.fit; words = g.words; node_in = r.node_in; pos_in_lem = r.pos_in_lem; open_in = r.open_in; made_within = g.made_within; top_within = omega arith; order = order }
+      record { fit = r.fit; words = g.words; node_in = r.node_in; pos_within = r.pos_within; open_in = r.open_in; made_within = g.made_within; top_within = omega arith; order = order }
 
   -- What is asked for a node's kind and fields.
   pub node_known : {w : List ℕ} {left live made top i pos : ℕ} → Ready given line w left live made top i pos → Laid given.table × ((i < nodes_in given) × (get_or given.numbers 2 0 ≡ node_at (rules_in given) 0))
@@ -54,7 +54,7 @@ module _ {given : Given} {line : List ℕ} where
 
   -- Another node at the same position.
   pub ready_at : {w : List ℕ} {left live made top i pos : ℕ} (j : ℕ) → Ready given line w left live made top i pos → j < nodes_in given → Ready given line w left live made top j pos
-  ready_at j r lj = record { fit = r.fit; words = r.words; node_in = lj; pos_in_lem = r.pos_in_lem; open_in = r.open_in; made_within = r.made_within; top_within = r.top_within; order = r.order }
+  ready_at j r lj = record { fit = r.fit; words = r.words; node_in = lj; pos_within = r.pos_within; open_in = r.open_in; made_within = r.made_within; top_within = r.top_within; order = r.order }
 
 module _ (given : Given) (line : List ℕ) (fit : Fit given line) where
   pub rules_are : length (grammar_in given).roots ≡ rules_in given

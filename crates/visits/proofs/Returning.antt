@@ -74,7 +74,7 @@ module _ (given : Given) (line : List ℕ) (spot i before : ℕ) where
     pub words : Words given line (lowered w before) (live_in spot) (top_in w)
     pub at_in : at ≤ length line
     pub end : end_in r ≡ end_in r₀
-    pub list_in_lem : list_in r ≤ top_in w
+    pub list_within : list_in r ≤ top_in w
     pub cells : top_in w + n ≤ top_in w₀ + turns_in w₀
     pub made : made_in w ≡ made_in w₀
     pub left : (ts₀ : List Turn) → Waiting given line w₀ (top_in w₀) before (turns_in w₀) ts₀ → Left w₀ r₀ ts₀ w n at r
@@ -86,9 +86,9 @@ module _ (given : Given) (line : List ℕ) (spot i before : ℕ) where
     pub loop_begins : (at : ℕ) → at ≡ pos_in spot → Going w₀ r₀ w₀ (turns_in w₀) at r₀
     loop_begins at is = record {
       words = low_words given line before few start.words;
-      at_in = omega (arith, is, start.pos_in_lem);
+      at_in = omega (arith, is, start.pos_within);
       end = refl;
-      list_in_lem = start.list_in_lem;
+      list_within = start.list_within;
       cells = omega arith;
       made = refl;
       left = λ ts h. record { turns = ts; waiting = h; enough = λ new q b. rw is at b };
@@ -137,7 +137,7 @@ module _ (given : Given) (line : List ℕ) (spot i before : ℕ) where
             (keep_words given line start.fit go.words start.free few (omega arith) i at start.node_in go.at_in 1 0 (omega arith) (omega arith)))
             (λ no. let lt : end_in r < STOPPED = omega (arith, most, start.end_is) in
             subst (λ u. Words given line u (live_in spot) (top_in w)) (sym ((lowered_kept before kept).matched lt))
-            (keep_words given line start.fit go.words start.free few (omega arith) i at start.node_in go.at_in (end_in r + 2) (list_in r) (omega (arith, start.end_within (omega arith))) go.list_in_lem))
+            (keep_words given line start.fit go.words start.free few (omega arith) i at start.node_in go.at_in (end_in r + 2) (list_in r) (omega (arith, start.end_within (omega arith))) go.list_within))
 
         long_kept : room_in given line ≤ length w₁
         long_kept = omega (arith, words_kept.room, length-set w₁ 2041 before)
@@ -167,7 +167,7 @@ module _ (given : Given) (line : List ℕ) (spot i before : ℕ) where
               let t = room_left in
               let a = start.fit.allowance in
               let z = long_kept in
-              rw (is, top_kept) ((arena_kept, (omega (arith, lefts, list-is, turn_list_lem, newest.0), omega (arith, rights, go.list_in_lem))), (omega arith, omega arith))
+              rw (is, top_kept) ((arena_kept, (omega (arith, lefts, list-is, turn_list_lem, newest.0), omega (arith, rights, go.list_within))), (omega arith, omega arith))
 
           -- They are joined, which leaves the words w₃.
           module _ {w₃ : List ℕ} (q : ℕ) {end₂ : ℕ} (ends₂ : end₂ ≡ end_in r) (end-q : end_in q ≡ end₂) (d : Added w₂ w₃ (top_in w₂) (list_in q) (top_in w₃) (trees_at w₂ left ⋈ trees_at w₂ right)) where
@@ -224,7 +224,7 @@ module _ (given : Given) (line : List ℕ) (spot i before : ℕ) where
                 words = made_words given line start.fit few lowest added words_kept;
                 at_in = omega (arith, next-is, pos, turn_pos_lem, newest.1);
                 end = end-q ∙ ends₂ ∙ go.end;
-                list_in_lem = plain.within;
+                list_within = plain.within;
                 cells = omega (arith, plain.one, go.cells, least);
                 made = made_is ∙ go.made;
                 left = λ ts₀ h. left_after ts₀ (go.left ts₀ h).turns (go.left ts₀ h).waiting (go.left ts₀ h).enough;

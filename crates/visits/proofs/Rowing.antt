@@ -40,9 +40,9 @@ module _ (given : Given) (line : List ℕ) (left i : ℕ) where
   pub record Row (live : ℕ) (w₀ : List ℕ) (x₀ made₀ top₀ : ℕ) (w : List ℕ) (x list made top : ℕ) : Type 0 where
     pub same : Same given line w₀ w live top₀
     pub words : Words given line w live top
-    pub pos_in_lem : x ≤ length line
+    pub pos_within : x ≤ length line
     pub pos_up : x₀ ≤ x
-    pub list_in_lem : list ≤ top
+    pub list_within : list ≤ top
     pub top_up : top₀ ≤ top
     pub made_up : made₀ ≤ made
     pub made_within : made ≤ allowance_in given
@@ -108,9 +108,9 @@ module _ (given : Given) (line : List ℕ) (fit : Fit given line) (left i : ℕ)
     row_begins {live} {w} {x} {made} {top} words inside le = record {
       same = same_none given line w live top;
       words = words;
-      pos_in_lem = inside;
+      pos_within = inside;
       pos_up = omega arith;
-      list_in_lem = omega arith;
+      list_within = omega arith;
       top_up = omega arith;
       made_up = omega arith;
       made_within = le;
@@ -121,11 +121,11 @@ module _ (given : Given) (line : List ℕ) (fit : Fit given line) (left i : ℕ)
     module _ {live : ℕ} {w₀ : List ℕ} {x₀ made₀ top₀ : ℕ} {w : List ℕ} {x list made top : ℕ} (g : Row given line left i live w₀ x₀ made₀ top₀ w x list made top) {w₁ : List ℕ} {a : Visited}
         (A : Came given line w w₁ live made top a (λ l s. reading given line left l (a_in given i) x s)) where
       so_far : trees_at w₁ list ≡ trees_at w list
-      so_far = same_trees given line A.same list g.list_in_lem
+      so_far = same_trees given line A.same list g.list_within
 
       -- The child was refused: so is the row.
       pub row_refused : a.end ≡ STOPPED → Came given line w₀ w₁ live made₀ top₀ a (λ l s. applies given line left l i x₀ s)
-      row_refused h = g.rest (stopped given line fit.short (λ l. joined (trees_at w list)) (row_stop x g.pos_in_lem A h) h)
+      row_refused h = g.rest (stopped given line fit.short (λ l. joined (trees_at w list)) (row_stop x g.pos_within A h) h)
 
       -- The row ends here, with the trees so far.
       ended : Came given line w w₁ live made top (result x 0 a.top a.made) (λ l s. applies given line left l i x s)
@@ -133,15 +133,15 @@ module _ (given : Given) (line : List ℕ) (fit : Fit given line) (left i : ℕ)
       unfolding joined
       ended c =
           let sh = fit.short in
-          let p = g.pos_in_lem in
+          let p = g.pos_within in
           let up = A.top_up in
           g.rest (then_match given line fit.short (λ l. joined (trees_at w list)) c (omega arith)
-          (still given line fit.short x list _ A.words A.made_within (omega arith) (λ z. p) (λ z. let m = g.list_in_lem in omega arith)
+          (still given line fit.short x list _ A.words A.made_within (omega arith) (λ z. p) (λ z. let m = g.list_within in omega arith)
           (λ l s st. (so_far ∙ sym (ap (λ ts. trees_at w list ⋈ ts) (trees_none w₁) ∙ join_none (trees_at w list)), record { end = refl; inside = p; stands = st }))))
 
       pub row_ends : (a.end ≡ FAILED) ⊎ (a.end ≡ x) → Came given line w₀ w₁ live made₀ top₀ (result x list a.top a.made) (λ l s. applies given line left l i x₀ s)
-      row_ends (inl h) = ended (row_none x g.pos_in_lem A h)
-      row_ends (inr h) = ended (row_empty x g.pos_in_lem A h)
+      row_ends (inl h) = ended (row_none x g.pos_within A h)
+      row_ends (inr h) = ended (row_empty x g.pos_within A h)
 
       -- Another turn: the trees are joined, and the next visit is refused or counted.
       module _ (h : a.end < STOPPED) (ne : a.end ≢ x) (few : live * 3 ≤ 2041) (low : a.top + turns_in w₁ < allowance_in given) {w₂ : List ℕ} {list₂ top₂ : ℕ}
@@ -156,7 +156,7 @@ module _ (given : Given) (line : List ℕ) (fit : Fit given line) (left i : ℕ)
         pub row_effort : allowance_in given ≤ a.made → Came given line w₀ w₂ live made₀ top₀ (result STOPPED (11 * 4096 + a.end) top₂ a.made) (λ l s. applies given line left l i x₀ s)
         row_effort full =
             g.rest (stopped given line fit.short (λ l. joined (trees_at w list))
-            (row_on x g.pos_in_lem A h ne (joining (turn_effort a.end (joined (trees_at w₁ a.list)) joined_words A.made_within (A.end_within h) full))) refl)
+            (row_on x g.pos_within A h ne (joining (turn_effort a.end (joined (trees_at w₁ a.list)) joined_words A.made_within (A.end_within h) full))) refl)
 
         abbrev counted : List ℕ
         counted = set w₂ 2043 (a.made + 1)
@@ -178,14 +178,14 @@ module _ (given : Given) (line : List ℕ) (fit : Fit given line) (left i : ℕ)
               same = same_then given line (same_then given line (same_then given line g.same A.same (omega arith) t₀) (made_same given line {live = live} fit few low d) (omega arith) (omega arith))
                   (written_same given line 2043 (omega arith) (omega arith) w₂ (a.made + 1) {live = live} {top = top₂} few) (omega arith) (omega arith);
               words = written_words given line 2043 (omega arith) (omega arith) w₂ (a.made + 1) few joined_words;
-              pos_in_lem = A.end_within h;
+              pos_within = A.end_within h;
               pos_up = omega arith;
-              list_in_lem = d.within;
+              list_within = d.within;
               top_up = omega arith;
               made_up = omega arith;
               made_within = omega arith;
               cells = omega arith;
-              rest = λ {w'} {r} c. g.rest (row_turn x g.pos_in_lem A h ne (joined (trees_at w list)) (joining
+              rest = λ {w'} {r} c. g.rest (row_turn x g.pos_within A h ne (joined (trees_at w list)) (joining
                   (came_as given line fit.short _
                   (turn_open a.end (joined (trees_at counted list₂)) joined_words lt few (came_as given line fit.short _ c (λ l s. ap (λ m. after m (joined (trees_at counted list₂))) (opens_plain a.end l s))))
                   (λ l s. ap (λ ts. after (reading given line (suc left) l i a.end s) (joined ts)) trees_now ∙ joined_both (trees_at w list) (trees_at w₁ a.list) (reading given line (suc left) l i a.end s)))));

@@ -39,7 +39,7 @@ module _ (given : Given) (line : List ℕ) (spot i : ℕ) (w₀ : List ℕ) (rea
   few = omega arith
 
   pub begins : RowIn given line spot i w₀ w₀ (pos_in spot) 0
-  begins = row_begins given line ready.fit (left_in spot) i ready.node_in kind plain ready.words ready.pos_in_lem ready.made_within
+  begins = row_begins given line ready.fit (left_in spot) i ready.node_in kind plain ready.words ready.pos_within ready.made_within
 
   module _ {w : List ℕ} {x list : ℕ} (g : RowIn given line spot i w₀ w x list) where
     -- The child may be visited.
@@ -48,7 +48,7 @@ module _ (given : Given) (line : List ℕ) (spot i : ℕ) (w₀ : List ℕ) (rea
       fit = ready.fit;
       words = g.words;
       node_in = inside;
-      pos_in_lem = g.pos_in_lem;
+      pos_within = g.pos_within;
       open_in = ready.open_in;
       made_within = g.made_within;
       top_within = omega (arith, ready.top_within, g.cells, g.same.turns);
@@ -78,9 +78,9 @@ module _ (given : Given) (line : List ℕ) (spot i : ℕ) (w₀ : List ℕ) (rea
 
         pub join_ready : (right : ℕ) → right ≡ list_in a → (Arena w₁ (top_in w₁) × ((list ≤ top_in w₁) × (right ≤ top_in w₁))) × ((2048 + 4 * top_in w₁ + 3 < length w₁) × (top_in w₁ < 1073741823))
         join_ready right e =
-            let u = g.list_in_lem in
+            let u = g.list_within in
             let v = A.came.top_up in
-            let z = A.came.list_in_lem h in
+            let z = A.came.list_within h in
             ((A.came.words.arena, (omega arith, omega arith)), room_tree given line ready.fit A.came.words low)
 
         module _ (ne : end_in a ≢ x) {w₂ : List ℕ} {list₂ : ℕ} (d : Added w₁ w₂ (top_in w₁) list₂ (top_in w₂) (trees_at w₁ list ⋈ trees_at w₁ (list_in a))) where
@@ -98,7 +98,7 @@ module _ (given : Given) (line : List ℕ) (spot i : ℕ) (w₀ : List ℕ) (rea
                 came = came_at given line ready.fit.short (end_in r) (list_in r) (top_in w₂) (made_in w₂) q (f ∙ ap (λ c. c * 4096 + end_in a) is) refl made_stays
                     (row_effort given line ready.fit (left_in spot) i ready.node_in kind plain g A.came h ne few low d (omega (arith, e.0, made_stays)));
                 cells = omega (arith, g.cells, A.fewer h, d.one, made_stays);
-                ahead = λ p. omega (arith, q, ready.pos_in_lem, ready.fit.short);
+                ahead = λ p. omega (arith, q, ready.pos_within, ready.fit.short);
               })
           full (inr e) n r q f = absurd (n e.1)
 

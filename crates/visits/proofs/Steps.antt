@@ -68,7 +68,7 @@ module _ (given : Given) (line : List ℕ) (short : length line ≤ longest_line
         words = d.words;
         end_most = d.end_most;
         end_within = d.end_within;
-        list_in_lem = d.list_in_lem;
+        list_within = d.list_within;
         top_up = omega arith;
         made_up = omega arith;
         made_within = d.made_within;
@@ -82,7 +82,7 @@ module _ (given : Given) (line : List ℕ) (short : length line ≤ longest_line
       words = c.words;
       end_most = c.end_most;
       end_within = c.end_within;
-      list_in_lem = c.list_in_lem;
+      list_within = c.list_within;
       top_up = c.top_up;
       made_up = c.made_up;
       made_within = c.made_within;
@@ -114,7 +114,7 @@ module _ (given : Given) (line : List ℕ) (short : length line ≤ longest_line
     words = c.words;
     end_most = c.end_most;
     end_within = c.end_within;
-    list_in_lem = c.list_in_lem;
+    list_within = c.list_within;
     top_up = c.top_up;
     made_up = c.made_up;
     made_within = c.made_within;
@@ -135,7 +135,7 @@ module _ (given : Given) (line : List ℕ) (short : length line ≤ longest_line
     words = h;
     end_most = most;
     end_within = e;
-    list_in_lem = i;
+    list_within = i;
     top_up = omega arith;
     made_up = omega arith;
     made_within = le;
@@ -151,7 +151,7 @@ module _ (given : Given) (line : List ℕ) (short : length line ≤ longest_line
     words = made_words given line fit few low d h;
     end_most = omega arith;
     end_within = λ z. inside;
-    list_in_lem = λ z. d.within;
+    list_within = λ z. d.within;
     top_up = d.rise;
     made_up = omega arith;
     made_within = le;
@@ -178,7 +178,7 @@ module _ (given : Given) (line : List ℕ) (short : length line ≤ longest_line
     words = c.words;
     end_most = c.end_most;
     end_within = c.end_within;
-    list_in_lem = λ z. absurd (omega arith);
+    list_within = λ z. absurd (omega arith);
     top_up = c.top_up;
     made_up = c.made_up;
     made_within = c.made_within;

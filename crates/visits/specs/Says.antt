@@ -84,7 +84,7 @@ pub record Ready (given : Given) (line w : List ℕ) (left live made top node po
   pub fit : Fit given line
   pub words : Words given line w live top
   pub node_in : node < nodes_in given
-  pub pos_in_lem : pos ≤ length line
+  pub pos_within : pos ≤ length line
   pub open_in : live + left ≤ 513
   pub made_within : made ≤ allowance_in given
   pub top_within : top + turns_in w ≤ made
@@ -120,7 +120,7 @@ pub record Came (given : Given) (line old new : List ℕ) (live made top : ℕ) 
   pub words : Words given line new live r.top
   pub end_most : r.end ≤ FAILED
   pub end_within : r.end < STOPPED → r.end ≤ length line
-  pub list_in_lem : r.end < STOPPED → r.list ≤ r.top
+  pub list_within : r.end < STOPPED → r.list ≤ r.top
   pub top_up : top ≤ r.top
   pub made_up : made ≤ r.made
   pub made_within : r.made ≤ allowance_in given
@@ -177,11 +177,11 @@ pub record Returns (given : Given) (line w : List ℕ) (spot i before r : ℕ) :
   pub few : live_in spot ≤ 512
   pub free : keeps_in given ≡ true
   pub node_in : i < nodes_in given
-  pub pos_in_lem : pos_in spot ≤ length line
+  pub pos_within : pos_in spot ≤ length line
   pub end_most : end_in r ≤ FAILED
   pub end_is : end_in r ≢ STOPPED
   pub end_within : end_in r < STOPPED → end_in r ≤ length line
-  pub list_in_lem : list_in r ≤ top_in w
+  pub list_within : list_in r ≤ top_in w
   pub room : top_in w + turns_in w ≤ allowance_in given
   pub turns : List Turn
   pub waiting : Waiting given line w (top_in w) before (turns_in w) turns

@@ -216,7 +216,7 @@ pub record Roomy (given : Given) (w : List ℕ) (i x : ℕ) : Type 0 where
   pub each : kept_each_in given ≤ 512
   pub allowance : allowance_in given ≤ most_allowance
   pub node_in : i < 512
-  pub pos_in_lem : x ≤ longest_line
+  pub pos_within : x ≤ longest_line
   pub room : place_in given i x + 1 < length w
 
 -- What is kept once a pair is finished: a failure, or the end and the list of a match.

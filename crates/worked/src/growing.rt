@@ -1,8 +1,8 @@
-// Sheets in which some rules are left_recursive_lem and others are not: only the former become live.
+// Sheets in which some rules are left-recursive and others are not: only the former become live.
 use crate::build::Table;
 use crate::{build, say, sheets};
 
-// Rule 0 is not left_recursive_lem and uses a rule that is, where it stands itself.
+// Rule 0 is not left-recursive and uses a rule that is, where it stands itself.
 pub(crate) fn rule_0_above() {
     let mut table = [0u8; build::SPACE];
     let l = sheets::above(&mut table);

@@ -48,7 +48,7 @@ fn report_and_lines(
     say::prefix(single, table, length, b"1", 2_500);
 }
 
-// A left_recursive_lem rule takes nothing from a sheet that never uses it. Wherever it is used, the sheet isn't free.
+// A left-recursive rule takes nothing from a sheet that never uses it. Wherever it is used, the sheet isn't free.
 pub(crate) fn unused_rules() {
     let mut table = [0u8; build::SPACE];
     let unused = sheets::unused(&mut table);

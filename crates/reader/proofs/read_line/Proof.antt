@@ -46,7 +46,7 @@ start-requires c κs =
     let at-kept-from = c.before.before.before.before.before.before.before.before.before.kept_from in
     let at_clear = c.before.before.before.before.before.before.before.clear in
     let at-no-cells = c.before.before.before.no_cells in
-    startable _ _ _ _ _ at-judge.result.free _ _ _ _ at_entry_lem.requires.0 at_entry_lem.requires.1 at-judge.ensures.used.same_length at-judge.ensures.used.rest at-kept-from.ensures at_clear.ensures at-no-cells.ensures.0 at-judge.ensures.free at-judge.ensures.left_recursive_lem at-no-cells.ensures.1
+    startable _ _ _ _ _ at-judge.result.free _ _ _ _ at_entry_lem.requires.0 at_entry_lem.requires.1 at-judge.ensures.used.same_length at-judge.ensures.used.rest at-kept-from.ensures at_clear.ensures at-no-cells.ensures.0 at-judge.ensures.free at-judge.ensures.left_rules at-no-cells.ensures.1
 
 finish-requires : tie.Need-finish-requires
 finish-requires c κs = search rules

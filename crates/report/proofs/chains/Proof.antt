@@ -1,4 +1,4 @@
--- The left_recursive_lem rules are those from which a chain of starts leads back; those at the start of rule 0, itself and those to which one leads from it.
+-- The left-recursive rules are those from which a chain of starts leads back; those at the start of rule 0, itself and those to which one leads from it.
 use mathlib.Core.Path.{◌≡◌, ap}
 use Prim.Native.Nat.{ℕ, ◌<◌}
 use native.Mathlib.Omega.{arith}

@@ -1,4 +1,4 @@
--- The masks are found, then whether a left_recursive_lem rule is reachable.
+-- The masks are found, then whether a left-recursive rule is reachable.
 use native.Mathlib.Omega.{arith}
 use borrow.Author.Rules.{rules}
 use Rattle.report.proofs.Passes.{used}
@@ -22,7 +22,7 @@ returns c =
     let s = c.before.before.before.before.before.before.before.before.before.before in
     let m = c.before.before.before.before.before.before.masks.ensures in
     let j = c.before.before.none-reached.ensures in
-    record { left_recursive_lem = m.0; free = j.free; used = used _ s.requires.0 s.args.scratch.now s.requires.2 _ m.2 _ j }
+    record { left_rules = m.0; free = j.free; used = used _ s.requires.0 s.args.scratch.now s.requires.2 _ m.2 _ j }
 
 pub judge-spec : {M : Type 1} → statement M
 judge-spec = tie.close (tie.spec masks-requires none-reached-requires same_length returns)

@@ -1,4 +1,4 @@
--- A table is free if no left_recursive_lem rule is found to be reachable; the masks alone may tell.
+-- A table is free if no left-recursive rule is found to be reachable; the masks alone may tell.
 use mathlib.Core.Path.{refl}
 use mathlib.Core.Bool.{true, false, false≢true}
 use native.Mathlib.Omega.{arith}

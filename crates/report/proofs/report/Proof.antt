@@ -1,4 +1,4 @@
--- A refused table is reported by its code and place alone; an accepted one by both masks, and by whether a left_recursive_lem rule is reachable.
+-- A refused table is reported by its code and place alone; an accepted one by both masks, and by whether a left-recursive rule is reachable.
 use mathlib.Core.Path.{refl, ◌∙◌}
 use native.Mathlib.Omega.{arith}
 use borrow.Author.Rules.{rules}
@@ -25,9 +25,9 @@ returns c =
       code = v.code;
       place = v.place;
       may_be_empty = λ a. absurd (c.if1.true (v.code ∙ a));
-      left_recursive_lem = λ a. absurd (c.if1.true (v.code ∙ a));
+      left_rules = λ a. absurd (c.if1.true (v.code ∙ a));
       free = λ a. absurd (c.if1.true (v.code ∙ a));
-      how_many_lem = count_none;
+      count_is = count_none;
       lowest = lowest_none;
       refused = λ n. (refl, refl, refl, refl, refl);
     }
@@ -64,8 +64,8 @@ returns-2 c =
       code = v.code;
       place = v.place;
       may_be_empty = λ x. v.rules (laid _ a);
-      left_recursive_lem = λ x. found.0;
-      how_many_lem = c.before.count.ensures;
+      left_rules = λ x. found.0;
+      count_is = c.before.count.ensures;
       lowest = c.lowest.ensures;
       free = λ x. free_said _ (laid _ a) judged.free;
       refused = λ n. absurd (n a);

@@ -75,7 +75,7 @@ apply_met t c =
     ⊎_elim
     (λ w. rw (w.3, w.4) (
       record {
-        came = came_at _ _ fit.short _ _ _ _ (w.2.ensures.0 ∙ w.1.ensures) w.2.ensures.1 refl refl (apply_empty _ _ fit _ _ _ ready.node_in ready.words ready.made_within (kind ∙ w.0.keys1) ready.pos_in_lem);
+        came = came_at _ _ fit.short _ _ _ _ (w.2.ensures.0 ∙ w.1.ensures) w.2.ensures.1 refl refl (apply_empty _ _ fit _ _ _ ready.node_in ready.words ready.made_within (kind ∙ w.0.keys1) ready.pos_within);
         cells = omega arith;
         ahead = λ p. omega (arith, w.2.ensures.0, w.1.ensures);
       },
@@ -111,7 +111,7 @@ apply_met t c =
     let q = above_six at-kind-of.result r.0.0.0.0.0.0.1 r.0.0.0.0.0.1 r.0.0.0.0.1 r.0.0.0.1 r.0.0.1 r.0.1 r.1 in
     rw (w.3, w.4) (
       record {
-        came = came_at _ _ fit.short _ _ _ _ (w.2.ensures.0 ∙ w.1.ensures) w.2.ensures.1 refl refl (apply_above _ _ fit _ _ _ ready.node_in ready.words ready.made_within q.0 (kind ∙ q.1) ready.pos_in_lem);
+        came = came_at _ _ fit.short _ _ _ _ (w.2.ensures.0 ∙ w.1.ensures) w.2.ensures.1 refl refl (apply_above _ _ fit _ _ _ ready.node_in ready.words ready.made_within q.0 (kind ∙ q.1) ready.pos_within);
         cells = omega arith;
         ahead = λ p. omega (arith, w.2.ensures.0, w.1.ensures);
       },
@@ -134,7 +134,7 @@ apply-pos-of-requires-2 t c κs = tt
 apply-visit-range-requires : (t : ℕ) → apply-lts.Need-visit-range-requires (apply-claims t) (apply_at t) apply.Post
 apply-visit-range-requires t c κs =
     let ready = c.before.before.before.before.before.before.before.pre.1.0 in
-    (node_known ready, ((rw c.pos-of2.ensures ready.pos_in_lem, ready.fit.short), omega (arith, ready.words.room)))
+    (node_known ready, ((rw c.pos-of2.ensures ready.pos_within, ready.fit.short), omega (arith, ready.words.room)))
 
 apply-a-of-requires : (t : ℕ) → apply-lts.Need-a-of-requires (apply-claims t) (apply_at t) apply.Post
 apply-a-of-requires t c κs = node_known c.before.before.before.before.before.pre.1.0
@@ -232,7 +232,7 @@ apply-keep-requires t c κs =
     let m = met.0.came.end_most in
     let free = keeps_yes _ c.before.before.before.before.if1.left in
     let given = lent at_start.args.table.now.now at_start.args.given.now in
-    let room = roomy given at_start.args.line.now.now _ at_start.args.node (pos_in at_start.args.spot) ready.fit free met.0.came.words.room ready.node_in ready.pos_in_lem in
+    let room = roomy given at_start.args.line.now.now _ at_start.args.node (pos_in at_start.args.spot) ready.fit free met.0.came.words.room ready.node_in ready.pos_within in
     (rw at-pos-of4.ensures room, omega arith)
 
 apply-returns-2 : (t : ℕ) → apply-lts.Need-returns-2 (apply-claims t) (apply_at t) apply.Post

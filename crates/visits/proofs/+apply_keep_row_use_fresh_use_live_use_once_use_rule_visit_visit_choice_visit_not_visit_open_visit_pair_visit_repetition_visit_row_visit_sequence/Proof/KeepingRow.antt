@@ -547,7 +547,7 @@ keep-row-loop-again t c =
     let turns = ap turns_in the-looked.0 ∙ still_turns _ _ _ _ _ pre.0 pre.1.0.0 pre.1.0.1 pre.1.1 at-loop.invariant.0 _ the-visited less other the-counted.0 in
     let put = rw (turns, the-looked.0, at-pos-of4.ensures) at at-put-turn.ensures in
     let next = goes_on _ _ _ _ _ pre.0 pre.1.0.0 pre.1.0.1 pre.1.1 at-loop.invariant.0 _ the-visited less other the-counted.0 none _ put at-list-of3.ensures in
-    (rw (on.there, at_end_of.ensures, next.turns_in_lem) next, (at-loop.invariant.1.0, (record { left = on.left ∙ here.left; live = on.live ∙ here.live; there = refl }, ap (λ r. r.name) at-kept-word.ensures.1 ∙ at-enter-in-place.ensures.1 ∙ at-visit.ensures.1 ∙ at-loop.invariant.1.1.1)))
+    (rw (on.there, at_end_of.ensures, next.turns_within) next, (at-loop.invariant.1.0, (record { left = on.left ∙ here.left; live = on.live ∙ here.live; there = refl }, ap (λ r. r.name) at-kept-word.ensures.1 ∙ at-enter-in-place.ensures.1 ∙ at-visit.ensures.1 ∙ at-loop.invariant.1.1.1)))
 
 -- All of it.
 pub keep-row-closed : (M : Type 1) (t : ℕ) → keep-row-lts.Closed (keep-row-claims t) (keep-row-at t) keep_row.Post M

@@ -147,12 +147,12 @@ use-live-pos-of-requires t c κs = tt
 use-live-mul-key : (t : ℕ) → use-live-lts.Need-overflow-mul-key (use-live-claims t) (use-live-at t) use-live.Post use-live-Inv-loop use-live-μ-loop
 use-live-mul-key t c =
     let ready = (use-live-tried t c.before).ready in
-    omega (arith, ready.pos_in_lem, ready.fit.short, c.pos_of.ensures)
+    omega (arith, ready.pos_within, ready.fit.short, c.pos_of.ensures)
 
 use-live-add-key : (t : ℕ) → use-live-lts.Need-overflow-add-key (use-live-claims t) (use-live-at t) use-live.Post use-live-Inv-loop use-live-μ-loop
 use-live-add-key t c =
     let tried = use-live-tried t c.before in
-    omega (arith, tried.ready.pos_in_lem, tried.ready.fit.short, tried.small, c.pos_of.ensures)
+    omega (arith, tried.ready.pos_within, tried.ready.fit.short, tried.small, c.pos_of.ensures)
 
 use-live-live-of-requires : (t : ℕ) → use-live-lts.Need-live-of-requires (use-live-claims t) (use-live-at t) use-live.Post use-live-Inv-loop use-live-μ-loop
 use-live-live-of-requires t c κs = tt
@@ -169,7 +169,7 @@ use-live-put-use-requires t c κs =
 use-live-add-visit : (t : ℕ) → use-live-lts.Need-overflow-add-visit (use-live-claims t) (use-live-at t) use-live.Post use-live-Inv-loop use-live-μ-loop
 use-live-add-visit t c =
     let ready = (use-live-tried t c.before.before.before.before.before).ready in
-    omega (arith, ready.pos_in_lem, ready.fit.short)
+    omega (arith, ready.pos_within, ready.fit.short)
 
 use-live-visit-requires : (t : ℕ) → use-live-lts.Need-visit-requires (use-live-claims t) (use-live-at t) use-live.Post use-live-Inv-loop use-live-μ-loop
 use-live-visit-requires t c κs =
@@ -198,10 +198,10 @@ use-live-planted-requires t c κs =
     let fit = tried.ready.fit in
     let short = use-live-short t c.before.before in
     let one = (first_attempt_lem _ tried (use-live-first t at-visit)).came in (
-      (one.words.arena, omega (arith, one.list_in_lem short, c.list_of.ensures)),
+      (one.words.arena, omega (arith, one.list_within short, c.list_of.ensures)),
       (
         room_tree _ _ fit one.words (first_low _ tried (use-live-first t at-visit) short),
-        (tried.small, (omega (arith, tried.ready.pos_in_lem, fit.short, c.before.before.before.before.before.before.before.before.before.pos_of.ensures), omega (arith, one.end_within short, c.before.before.before.end_of_lem.ensures, fit.short))),
+        (tried.small, (omega (arith, tried.ready.pos_within, fit.short, c.before.before.before.before.before.before.before.before.before.pos_of.ensures), omega (arith, one.end_within short, c.before.before.before.end_of_lem.ensures, fit.short))),
       ),
     )
 
@@ -220,7 +220,7 @@ use-live-put-use-requires-2 t c κs =
 use-live-add-visit-2 : (t : ℕ) → use-live-lts.Need-overflow-add-visit-2 (use-live-claims t) (use-live-at t) use-live.Post use-live-Inv-loop use-live-μ-loop
 use-live-add-visit-2 t c =
     let ready = (use-live-begun t c.before.before.before.before).tried.ready in
-    omega (arith, ready.pos_in_lem, ready.fit.short)
+    omega (arith, ready.pos_within, ready.fit.short)
 
 use-live-visit-requires-2 : (t : ℕ) → use-live-lts.Need-visit-requires-2 (use-live-claims t) (use-live-at t) use-live.Post use-live-Inv-loop use-live-μ-loop
 use-live-visit-requires-2 t c κs =
@@ -250,10 +250,10 @@ use-live-planted-requires-2 t c κs =
     let fit = tried.ready.fit in
     let short = (use-live-longer t c.before.before).1 in
     let two = (next_attempt _ turned).came in (
-      (two.words.arena, omega (arith, two.list_in_lem short, c.list-of2.ensures)),
+      (two.words.arena, omega (arith, two.list_within short, c.list-of2.ensures)),
       (
         room_tree _ _ fit two.words (next_low _ turned short),
-        (tried.small, (omega (arith, tried.ready.pos_in_lem, fit.short, c.before.before.before.before.before.before.before.before.before.before.before.before.before.before.before.before.before.before.before.before.before.pos_of.ensures), omega (arith, two.end_within short, c.before.before.before.before.before.end-of2.ensures, fit.short))),
+        (tried.small, (omega (arith, tried.ready.pos_within, fit.short, c.before.before.before.before.before.before.before.before.before.before.before.before.before.before.before.before.before.before.before.before.before.pos_of.ensures), omega (arith, two.end_within short, c.before.before.before.before.before.end-of2.ensures, fit.short))),
       ),
     )
 

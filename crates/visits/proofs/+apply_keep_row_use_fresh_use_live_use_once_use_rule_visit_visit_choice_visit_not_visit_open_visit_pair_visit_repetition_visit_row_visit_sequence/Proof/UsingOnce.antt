@@ -79,10 +79,10 @@ use-once-planted-requires t c κs =
     let f = fewer in
     let m = one.made_within in
     let r = one.words.room in
-    let h = one.list_in_lem short in
+    let h = one.list_within short in
     let e = one.end_within short in
     let t = ready.top_within in
-    let p = ready.pos_in_lem in
+    let p = ready.pos_within in
     let s = fit.short in
     let al = fit.allowance in
     ((one.words.arena, omega (arith, at-list-of.ensures)), ((omega arith, omega arith), (at_start.requires.1.1.1.0, (omega (arith, at-pos-of.ensures), omega (arith, at_end_of.ensures)))))

@@ -50,7 +50,7 @@ use-rule-live-use-requires t c κs =
     let start = c.before in
     let ready = start.requires.1.0 in
     let few = start.requires.1.1.0.0 in
-    ((omega (arith, ready.words.room, few), (omega (arith, few), (use-rule-small t start, omega (arith, ready.pos_in_lem, ready.fit.short)))), (ready.order start.requires.1.1.1).rising)
+    ((omega (arith, ready.words.room, few), (omega (arith, few), (use-rule-small t start, omega (arith, ready.pos_within, ready.fit.short)))), (ready.order start.requires.1.1.1).rising)
 
 use-rule-sub-held-by : (t : ℕ) → use-rule-lts.Need-overflow-sub-held-by (use-rule-claims t) (use-rule-at t) use-rule.Post
 use-rule-sub-held-by t c = let some = c.before.if1.true in omega (arith, some)

@@ -86,7 +86,7 @@ visit-roomy : (t : ℕ) (c : Placed t)
 visit-roomy t c =
     let start = c.before.before.before.before.before.before in
     let starts = (visit-opened t c.before.before.before).starts in
-    rw (c.pos-of2.ensures ∙ sym (visit-opened t c.before.before.before).there) (roomy (given-at t start) _ _ _ _ starts.fit (keeps_yes _ c.before.if2.left) starts.words.room starts.node_in starts.pos_in_lem)
+    rw (c.pos-of2.ensures ∙ sym (visit-opened t c.before.before.before).there) (roomy (given-at t start) _ _ _ _ starts.fit (keeps_yes _ c.before.if2.left) starts.words.room starts.node_in starts.pos_within)
 
 -- What is kept is looked up, and the words stay.
 abbrev Looking : ℕ → Type 0
@@ -119,7 +119,7 @@ visit-add-answer : (t : ℕ) → visit-lts.Need-add-answer (visit-claims t) (vis
 visit-add-answer t c =
     let ready = c.before.before.before.before.pre.1 in
     let small = refused_small _ _ _ _ _ _ ready c.before.before.enter.ensures.0 in
-    omega (arith, small, ready.pos_in_lem, ready.fit.short, c.pos_of.ensures)
+    omega (arith, small, ready.pos_within, ready.fit.short, c.pos_of.ensures)
 
 visit-answer-requires : (t : ℕ) → visit-lts.Need-answer-requires (visit-claims t) (visit-at t) visit.Post
 visit-answer-requires t c κs = tt
@@ -129,7 +129,7 @@ visit-returns t c =
     let entered = c.before.before.before.enter in
     let listed = c.answer.ensures.1 ∙ ap (λ p. entered.result * 4096 + p) c.before.pos_of.ensures in
     let ready = c.before.before.before.before.before.pre.1 in
-    (refused _ _ _ _ _ _ ready entered.ensures.0 c.before.before.if1.taken _ c.answer.ensures.0 listed (omega (arith, ready.pos_in_lem, ready.fit.short)), entered.ensures.1)
+    (refused _ _ _ _ _ _ ready entered.ensures.0 c.before.before.if1.taken _ c.answer.ensures.0 listed (omega (arith, ready.pos_within, ready.fit.short)), entered.ensures.1)
 
 visit-element-copy-out-if2 : (t : ℕ) → visit-lts.Need-element-copy-out-if2 (visit-claims t) (visit-at t) visit.Post
 visit-element-copy-out-if2 t c = search rules
@@ -175,7 +175,7 @@ visit-visit-range-requires : (t : ℕ) → visit-lts.Need-visit-range-requires (
 visit-visit-range-requires t c κs =
     let o = visit-opened t c.before.before.before.before.before.before.before.before.before.before.before.before in
     let k = visit-looked t c.before.before.before.before.before.before.before in
-    (node_known o.starts, ((rw (c.before.before.before.before.before.before.before.before.before.pos-of2.ensures ∙ sym o.there) o.starts.pos_in_lem, o.starts.fit.short), rw k.same (omega (arith, o.starts.words.room))))
+    (node_known o.starts, ((rw (c.before.before.before.before.before.before.before.before.before.pos-of2.ensures ∙ sym o.there) o.starts.pos_within, o.starts.fit.short), rw k.same (omega (arith, o.starts.words.room))))
 
 visit-slice-aggregate-keep : (t : ℕ) → visit-lts.Need-slice-aggregate-keep (visit-claims t) (visit-at t) visit.Post
 visit-slice-aggregate-keep t c = refl
@@ -206,7 +206,7 @@ visit-keep-requires t c κs =
     let o = visit-opened t c.before.before.before.before.before.before.before.before.before.before.before.before.before.before.before.before in
     let ranged = visit-ranged t c.before.before.before in
     let free = keeps_yes _ c.before.before.before.before.before.before.before.before.before.before.before.before.before.before.if2.left in
-    let room = roomy (given-at t start) _ _ _ _ o.starts.fit free ranged.came.words.room o.starts.node_in o.starts.pos_in_lem in
+    let room = roomy (given-at t start) _ _ _ _ o.starts.fit free ranged.came.words.room o.starts.node_in o.starts.pos_within in
     (rw (c.before.before.before.before.before.before.before.before.before.before.before.before.before.pos-of2.ensures ∙ sym o.there) room, omega (arith, ranged.came.end_most, c.before.end_of_lem.ensures))
 
 visit-returns-4 : (t : ℕ) → visit-lts.Need-returns-4 (visit-claims t) (visit-at t) visit.Post

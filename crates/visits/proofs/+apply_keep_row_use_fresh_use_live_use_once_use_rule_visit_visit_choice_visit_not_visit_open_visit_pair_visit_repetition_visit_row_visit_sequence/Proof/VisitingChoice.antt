@@ -43,7 +43,7 @@ visit-choice-visit-requires-2 t c κs =
     let ready = at_start.requires.1.0 in
     let room = at_start.requires.1.1 in
     let first = at-visit.ensures.0 in
-    (omega (arith, at_start.requires.0), ready_next _ _ ready first.came first.cells room.1 ready.pos_in_lem (λ p. omega arith))
+    (omega (arith, at_start.requires.0), ready_next _ _ ready first.came first.cells room.1 ready.pos_within (λ p. omega arith))
 
 visit-choice-returns-2 : (t : ℕ) → visit-choice-lts.Need-returns-2 (visit-choice-claims t) (visit-choice-at t) visit-choice.Post
 visit-choice-returns-2 t c =

@@ -57,7 +57,7 @@ visit-not-returns-2 t c =
     let first = at-visit.ensures.0 in (
       record {
         came = came_at _ _ ready.fit.short _ _ _ _ (at-answer.ensures.0 ∙ at-pos-of.ensures) at-answer.ensures.1 refl refl
-            (not_match _ _ ready.fit visiting _ _ first.came (sym at_end_of.ensures ∙ at-if2.true) ready.pos_in_lem);
+            (not_match _ _ ready.fit visiting _ _ first.came (sym at_end_of.ensures ∙ at-if2.true) ready.pos_within);
         cells = first.cells;
         ahead = λ p. omega (arith, at-answer.ensures.0, at-pos-of.ensures);
       },
@@ -82,7 +82,7 @@ visit-not-returns-3 t c =
         came = came_at _ _ ready.fit.short _ _ _ _ at-answer2.ensures.0 at-answer2.ensures.1 refl refl
             (not_fail _ _ ready.fit visiting _ _ first.came (omega (arith, at_end_of.ensures, at-if1.false, at-if2.false, first.came.end_most)));
         cells = first.cells;
-        ahead = λ p. omega (arith, at-answer2.ensures.0, ready.pos_in_lem, ready.fit.short);
+        ahead = λ p. omega (arith, at-answer2.ensures.0, ready.pos_within, ready.fit.short);
       },
       at-visit.ensures.1,
     )

@@ -32,7 +32,7 @@ visit-open-pos-of-requires t c κs = tt
 visit-open-visit-range-requires : (t : ℕ) → visit-open-lts.Need-visit-range-requires (visit-open-claims t) (visit_open_at t) visit_open.Post
 visit-open-visit-range-requires t c κs =
     let ready = c.before.before.before.before.before.before.before.pre.1.0 in
-    (node_known ready, ((rw c.pos_of.ensures ready.pos_in_lem, ready.fit.short), omega (arith, ready.words.room)))
+    (node_known ready, ((rw c.pos_of.ensures ready.pos_within, ready.fit.short), omega (arith, ready.words.room)))
 
 visit-open-a-of-requires : (t : ℕ) → visit-open-lts.Need-a-of-requires (visit-open-claims t) (visit_open_at t) visit_open.Post
 visit-open-a-of-requires t c κs = node_known c.before.before.before.before.before.pre.1.0

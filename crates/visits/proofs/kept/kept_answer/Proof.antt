@@ -24,7 +24,7 @@ add-list c = search rules
 mul-list : tie.Need-overflow-mul-list
 mul-list c =
     let start = c.before.before in
-    omega (arith, c.kept_at.ensures, start.requires.0.room, pairs_before start.args.pos (get_or start.args.given.now 1 0) start.requires.0.pos_in_lem start.requires.0.each)
+    omega (arith, c.kept_at.ensures, start.requires.0.room, pairs_before start.args.pos (get_or start.args.given.now 1 0) start.requires.0.pos_within start.requires.0.each)
 
 index-1-list : tie.Need-bounds-1-list
 index-1-list c = search rules

@@ -13,7 +13,7 @@ kept-at-requires c κs = search rules
 mul-result : tie.Need-overflow-mul-result
 mul-result c =
     let start = c.before in
-    omega (arith, c.kept_at.ensures, start.requires.room, pairs_before start.args.pos (get_or start.args.given.now 1 0) start.requires.pos_in_lem start.requires.each)
+    omega (arith, c.kept_at.ensures, start.requires.room, pairs_before start.args.pos (get_or start.args.given.now 1 0) start.requires.pos_within start.requires.each)
 
 index-1-result : tie.Need-bounds-1-result
 index-1-result c = search rules
