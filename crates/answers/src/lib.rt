@@ -1,4 +1,6 @@
 // An answer as text on a page: READ matched visits records, or the code's name, place and visits.
+#![tactic(auto)]
+
 ghost use Rattle.std.specs.Prelude.{◌≤◌};
 ghost use Rattle.page.specs.Page.{Puts};
 ghost use Rattle.answers.specs.Printed.{name_of, next_number, refusal_text, answer_text, Answers};

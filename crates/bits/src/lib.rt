@@ -10,6 +10,7 @@
 //
 // specs/Mask says what these words mean of a number, specs/Marks of a list of words. proofs/Laws has the laws for callers: masks with the same bits are equal (`same_mask`),
 // a mask with the bits of a list of marks is that list's number (`is_mask_of`), 0 has no rule (`has_none`) and no other mask has none (`no_rule_lem`), and the halves of a mask give it back (`halves`).
+#![tactic(auto)]
 
 ghost use Rattle.std.specs.Prelude.{◌≡◌, true, ◌↔◌, ℕ, ◌+◌, ◌*◌, ◌/◌, ◌%◌, ◌^◌, ◌<◌, length};
 ghost use Rattle.bits.specs.Mask.{has, Added, Apart, how_many, least};

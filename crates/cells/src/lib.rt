@@ -6,6 +6,7 @@
 // specs/Cells says which trees a list stands for, as a function of the words; specs/Arena what is kept true (Arena) and what making a list
 // leaves (Made). proofs/Frame has the laws that a caller cites: where the words of the cells are the same every list is, so after what is
 // written below word 2045.
+#![tactic(auto)]
 
 ghost use Rattle.std.specs.Prelude.{◌≡◌, ℕ, ◌+◌, ◌*◌, ◌<◌, ◌≤◌, [], ◌∷◌, length};
 ghost use Rattle.std.proofs.lemmas.List.Edits.{sets};

@@ -1,4 +1,6 @@
 // Answers a stream of commands on standard input, a line of numbers for each question. A stream that is malformed ends in BAD.
+#![tactic(auto)]
+
 mod desk;
 mod field;
 mod fill;

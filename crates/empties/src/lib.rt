@@ -14,6 +14,7 @@
 //   proofs/Marking    what a pass marks, node by node
 //   proofs/Empties    a pass marks nothing but what may be empty; where it adds no rule, it has marked all
 //   proofs/Repeat     the passes put together
+#![tactic(auto)]
 
 ghost use Rattle.std.specs.Prelude.{◌≡◌, ◌&&◌, ◌||◌, false, ℕ, ◌<◌, ◌≤◌, length};
 ghost use Rattle.bits.specs.Marks.{marked};

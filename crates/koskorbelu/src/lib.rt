@@ -17,6 +17,7 @@
 //   proofs/Repetitions  in an accepted table a repetition's child never matches without consuming, and rep.3 is used in no reading
 //   proofs/Worked       01's worked lines that are marked P
 //   proofs/Face         a second call's answer equals the first's; what the report calls free is free
+#![tactic(auto)]
 
 ghost use Rattle.std.specs.Prelude.{◌≡◌, true, false};
 ghost use Rattle.reader.specs.Answer.{reading_of};

@@ -13,6 +13,7 @@
 //   proofs/First   the first number that passes a test, for every search from here up
 //   proofs/Laying  the grammar of such a table is closed; its nodes and roots are the table's; a node's fields by its kind
 //   proofs/Worked  01's sheets A and B are well laid, and are the grammars that 01 lists
+#![tactic(auto)]
 
 ghost use Rattle.std.specs.Prelude.{◌≡◌, ◌&&◌, cond, ◌+◌, ◌-◌, ◌%◌, ◌<◌, ◌≤◌, length};
 ghost use Rattle.layout.specs.Table.{pair_at, nodes_of, most_nodes, rules_of, most_rules, root_of, node_at, kind_of, field_of, a_of, b_of};

@@ -1,4 +1,6 @@
 // The program's work: reads lines from standard input by the sheet in the file class.gram, whole-line, and prints one line of text for each.
+#![tactic(auto)]
+
 mod lines;
 mod load;
 

@@ -38,6 +38,7 @@ module _ (g : Grammar) (line : List ℕ) where
   live_in : (l : List Note) (x a : ℕ) (s : List ℕ) → LiveAt l x s → In a s → look l a x ≢ none
   live_in l x a (b ∷ s) h (inl e) = rw e h.0
   live_in l x a (b ∷ s) h (inr i) = live_in l x a s h.1 i
+  live_in l x a [] h x3 = elim x3 [ ]
 
   stays : (l : List Note) (a x b : ℕ) (q : Answer) → look l b x ≢ none → look (noted a x q l) b x ≢ none
   unfolding look

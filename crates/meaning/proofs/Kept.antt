@@ -39,6 +39,7 @@ module _ (g : Grammar) (line : List ℕ) where
   plain_two e of_choice W.ord h k = ord2 h k
   plain_two {q = fail} e of_rep (W.rep2 n) h k = rep_matches (rw e at k) refl
   plain_two {q = ok z us} e of_rep (W.rep2 n) h k = rep2 h n (rw e at k)
+  plain_two {j = j} {i = i} {b = b} {y = y} {r = r} {q = q} {f = f} e (of_not {a = a}) x10 h k = elim x10 [ ]
 
   -- Each kept answer is the plain rules'.
   abbrev pub Right : List Note → Type 0
@@ -90,6 +91,7 @@ module _ (g : Grammar) (line : List ℕ) where
   furthest_two e of_choice W.ord h k = refl
   furthest_two {q = fail} e of_rep (W.rep2 n) h k = rep_matches (rw e at k) refl
   furthest_two {q = ok z us} e of_rep (W.rep2 n) h k = ap (max (furthest_of h)) (same_furthest g line (sym e) refl (rw e at k) k)
+  furthest_two {j = j} {i = i} {b = b} {y = y} {r = r} {q = q} {f = f} e (of_not {a = a}) n h k = elim n [ ]
 
   then_leaf : {p : Node} {x : ℕ} {s t : State} {r : Answer} → Leaf line x s p r t → Right s.kept → Then p x s.kept s.furthest r t
   then_leaf W.empty1 o = record { plain = empty1; right = o; reaches = λ a. record { asks = a; furthest = omega arith } }

@@ -58,3 +58,4 @@ module _ (g : Grammar) where
     second_lower e of_rep (W.rep2 n) m (rep1 h) = never' (one_answer g line h m)
     second_lower e of_rep (W.rep2 n) m (rep2 h q k) = moved h m (rw e (record { answer = _; rules = k; less = omega arith }))
     second_lower e of_rep (W.rep2 n) m (rep3 h) = absurd (n (ends (one_answer g line h m)))
+    second_lower {k = k} {i = i} {b = b} {y = y} {r = r} {q = q} {f = f} e (of_not {a = a}) x9 m d = elim x9 [ ]

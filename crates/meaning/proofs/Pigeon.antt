@@ -34,6 +34,7 @@ seek a (b ∷ s) = at_head (eqb a b) refl (seek a s)
 apart : (a b : ℕ) (s : List ℕ) → Absent a s → In b s → a ≢ b
 apart a b (c ∷ s) h (inl e) = λ q. h.0 (q ∙ e)
 apart a b (c ∷ s) h (inr i) = apart a b s h.1 i
+apart a b [] h x'' = elim x'' [ ]
 
 narrow : (n : ℕ) (s : List ℕ) → Distinct (suc n) s → Absent n s → Distinct n s
 narrow n [] h k = tt
@@ -58,6 +59,7 @@ without n (b ∷ s) h (inr i) =
       shorter = ap suc w.shorter;
       absent = λ a k. (k.0, w.absent a k.1);
     }
+without n [] h x'' = elim x'' [ ]
 
 at_most_seek : (n : ℕ) (s : List ℕ) → ((t : List ℕ) → Distinct n t → length t ≤ n) → Distinct (suc n) s → Absent n s ⊎ In n s → length s ≤ suc n
 at_most_seek n s ih h (inl k) = let z : length s ≤ n = ih s (narrow n s h k) in omega arith

@@ -57,6 +57,7 @@ module _ (g : Grammar) (line : List ℕ) (live : ℕ → Bool) where
   bounded_two e of_choice W.ord h k = ord2 h k
   bounded_two {q = fail} e of_rep (W.rep2 d) h k = rep_matches g line live (rw e at k) refl
   bounded_two {q = ok z us} e of_rep (W.rep2 d) h k = rep2 h d (rw e at k)
+  bounded_two {l = l} {j = j} {i = i} {b = b} {y = y} {n = n} {m = m} {r = r} {q = q} {f = f} e (of_not {a = a}) x10 h k = elim x10 [ ]
 
   -- The rules answer r, by a derivation that amounts to what is spent and reached between s and t, with at most d visits open at once.
   pub record Made (d : ℕ) (l : List Note) (p : Goal) (x : ℕ) (s : State) (r : Answer) (t : State) : Type 0 where

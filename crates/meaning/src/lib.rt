@@ -6,6 +6,7 @@
 // proofs/Needed: it is enough that the left-recursive rules become live; match and tree are those where every rule does.
 // proofs/Repeating: in a grammar without repetitions of nothing a repetition's child consumes, so that rep.3 is used in no reading.
 // proofs/Choose and proofs/Sets have small laws that all crates share: what a test decides, and numbers written into a list.
+#![tactic(auto)]
 
 ghost use Rattle.std.specs.Prelude.{◌≡◌};
 

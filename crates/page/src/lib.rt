@@ -1,4 +1,6 @@
 // Text on its way to standard output, gathered on a lent page: a page that is full is written out and filled anew.
+#![tactic(auto)]
+
 ghost use Rattle.std.specs.Prelude.{◌≡◌, [], ◌∷◌, ◌+◌, take, replicate};
 ghost use Rattle.page.specs.Page.{size, has_failed, marked, Puts};
 ghost use Rattle.page.specs.Decimal.{decimal};

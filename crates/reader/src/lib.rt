@@ -5,6 +5,8 @@
 // refusal is an answer. Codes 1 to 10 and 17 change nothing; else the first working numbers, as many as 01's formula says, are zero, and only a
 // reading (code 0) writes the room: the stored reading at its front, in the version that the line's length gives.
 // The reader relies on the check's promise alone for every node that it visits.
+#![tactic(auto)]
+
 ghost use Rattle.std.specs.Prelude.{◌≡◌, true, false, ◌&&◌, cond, ℕ, ◌+◌, ◌*◌, ◌<◌, ◌≤◌, length, ltb};
 ghost use Rattle.meaning.specs.Reading.{read};
 ghost use Rattle.layout.specs.Table.{nodes_of, grammar_of};

@@ -27,6 +27,7 @@
 //   proofs/Recursion   what stands at a node's start is led to, and what is led to is in the closed sets
 //   proofs/Reaching    what a node uses anywhere, and that the rounds from rule 0 on find the reachable rules
 //   proofs/Freely      a sheet is free exactly if no left-recursive rule is found to be reachable
+#![tactic(auto)]
 
 ghost use Rattle.std.specs.Prelude.{◌≡◌, true, ℕ, ◌+◌, ◌*◌, ◌<◌, ◌≤◌, length, get_or};
 ghost use Rattle.bits.specs.Mask.{has};

@@ -15,6 +15,7 @@
 //   proofs/Accepting  an accepted table is laid out well, and its grammar has no repetition of nothing
 //   proofs/Searching  where the search for such a repetition may begin, and what it finds
 //   proofs/Worked     01's sheets A and B are accepted; `('kW'?)*` is not
+#![tactic(auto)]
 
 ghost use Rattle.std.specs.Prelude.{◌≡◌, ◌-◌, ◌≤◌};
 ghost use Rattle.layout.specs.Table.{nodes_of, node_at, rules_of, grammar_of};

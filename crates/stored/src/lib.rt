@@ -7,6 +7,7 @@
 // proofs/Written shows that what is stored of a tree whose spans nest (specs/Nested) is well formed; proofs/OneTree that well_formed bytes
 // are stored of exactly one tree, which treeOf (specs/ReadBack) reads back from them; proofs/Versions that each version is well formed only
 // for its lines.
+#![tactic(auto)]
 
 ghost use Rattle.std.specs.Prelude.{◌≡◌, ℕ, ◌+◌, ◌*◌, ◌%◌, ◌<◌, ◌≤◌, [], ◌&&◌, length};
 ghost use Rattle.std.proofs.lemmas.List.Edits.{sets};

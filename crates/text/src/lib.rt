@@ -1,4 +1,6 @@
 // A sheet written as text (document 02, W-201) becomes the table that document 01 reads.
+#![tactic(auto)]
+
 mod letters;
 mod names;
 mod pile;

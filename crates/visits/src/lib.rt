@@ -13,6 +13,8 @@
 // A repetition's next visit of itself takes the place of the one before: a row of them is a loop, and takes the stack of one visit.
 // What a visit is made of stands in files of its own: fields (what the table has for a node), spot (where a visit stands), ranges, live (the live uses),
 // trees, kept (the kept answers), rows (the turns that wait). Here are the answer in one number, the counters, and the functions that call one another.
+#![tactic(auto)]
+
 mod fields;
 mod kept;
 mod live;

@@ -1,4 +1,6 @@
 // Runs every worked line and every limit, and prints one line of text for each case.
+#![tactic(auto)]
+
 mod build;
 mod furthest;
 mod growing;

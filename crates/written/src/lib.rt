@@ -1,4 +1,5 @@
 // Sheets written as text (document 02, W-201): what a written sheet is, which texts show it, and which table it is.
+#![tactic(auto)]
 
 ghost use Rattle.std.specs.Prelude.{◌≡◌};
 
