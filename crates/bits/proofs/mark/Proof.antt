@@ -10,7 +10,7 @@ mul-add-rule c = search rules
 element-copy-out-add-rule : tie.Need-element-copy-out-add-rule
 element-copy-out-add-rule c = search rules
 
-add-rule-requires : tie.Need-add-rule-requires
+add-rule-requires : tie.Need-add_rule-requires
 add-rule-requires c κs = search rules
 
 mul-marks : tie.Need-overflow-mul-marks
@@ -20,7 +20,7 @@ element-write-marks : tie.Need-element-write-marks
 element-write-marks c = search rules
 
 returns : tie.Need-returns
-returns c = with_mark _ _ _ (omega arith) c.add-rule.ensures
+returns c = with_mark _ _ _ (omega arith) c.add_rule.ensures
 
 pub mark_spec : {M : Type 1} → statement M
 mark_spec = tie.close (tie.spec mul-add-rule element-copy-out-add-rule add-rule-requires mul-marks element-write-marks returns)

@@ -9,7 +9,7 @@ mul-has-rule c = search rules
 element-copy-out-has-rule : tie.Need-element-copy-out-has-rule
 element-copy-out-has-rule c = search rules
 
-has-rule-requires : tie.Need-has-rule-requires
+has-rule-requires : tie.Need-has_rule-requires
 has-rule-requires c κs = search rules
 
 returns : tie.Need-returns
