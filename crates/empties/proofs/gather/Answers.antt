@@ -15,24 +15,15 @@ loop-a-init c = (omega arith, gathered_none _ _, omega arith)
 pub marked-requires : goal.marked-requires
 marked-requires c = omega (arith, well_laid _ c.requires)
 
-pub add_rule-more-requires : goal.add_rule-more-requires
-add_rule-more-requires c = omega arith
-
-pub overflow_add-a : goal.overflow_add-a
-overflow_add-a c = omega arith
-
-pub loop-a-smaller : goal.loop-a-smaller
-loop-a-smaller c = omega arith
-
 pub loop-a-preserved : goal.loop-a-preserved
 loop-a-preserved c =
     let l = c.loop-a in
     let inv = l.invariant in
     let found = c.marked.ensures ∙ ap (marked c.args.marks.now) (c.root.ensures.0 ∙ sym (root_is c.args.table.now l.a (omega arith))) in
     elim c.if-marked.branch [
-    | then-marked w ↦
-      (omega arith, rw w.more-is (gathered_in _ _ _ _ inv.1 _ (sym found ∙ w.if-marked.true) w.add_rule-more.ensures.bits), omega (arith, w.add_rule-more.ensures.grows))
-    | else-marked w ↦ (omega arith, rw w.more-is (gathered_out _ _ _ _ inv.1 (sym found ∙ w.if-marked.false)), omega arith)
+      | then-marked w ↦
+          (omega arith, rw w.more-is (gathered_in _ _ _ _ inv.1 _ (sym found ∙ w.if-marked.true) w.add_rule-more.ensures.bits), omega (arith, w.add_rule-more.ensures.grows))
+      | else-marked w ↦ (omega arith, rw w.more-is (gathered_out _ _ _ _ inv.1 (sym found ∙ w.if-marked.false)), omega arith)
     ]
 
 pub returns : goal.returns

@@ -17,7 +17,3 @@ returns-then-first-n c =
     let count = c.node_count-n.ensures.0 in
     let none : (i : ℕ) → i < length (grammar_of t).nodes → alone (node (grammar_of t) i) ≡ false = λ i h. c.first_empty-first.ensures.before i (omega arith) (omega (arith, node_count t, c.if-first-n.true, count)) in
     (no_rules (grammar_of t) (closed t c.requires.0) none, no_nodes (grammar_of t) (closed t c.requires.0) none _ c.requires.1)
-
-pub passes-requires : goal.passes-requires
-passes-requires c =
-    (c.requires.0, c.requires.1, rw c.node_count-n.ensures.0 at c.first_empty-first.ensures)

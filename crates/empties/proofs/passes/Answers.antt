@@ -22,12 +22,6 @@ pass-requires c =
     let b = c.loop-known.invariant in
     (c.requires.0, b.words, omega (arith, node_count c.args.table.now, b.there))
 
-pub gather-more-requires : goal.gather-more-requires
-gather-more-requires c = c.requires.0
-
-pub loop-known-smaller : goal.loop-known-smaller
-loop-known-smaller c = omega (arith, c.if-more-known.false, c.gather-more.ensures.1, c.gather-more.type_inv)
-
 pub loop-known-preserved : goal.loop-known-preserved
 loop-known-preserved c =
     let t = c.args.table.now in
