@@ -18,7 +18,7 @@ found : (t : List ℕ) → Laid t → (marks : List ℕ) → EmptyNodes (grammar
     → (a : ℕ) → a ≡ a_of t i → (b : Bool) → b ≡ marked marks a → cond b LOOP READ ≡ loop_fault t i
 found t laid marks m i h six a is b said =
     let mark : b ≡ get_or (empty_nodes (grammar_of t)) (a_of t i) false =
-        said ∙ ap (marked marks) is ∙ computed t laid marks m (a_of t i) (child_there t laid i h six) in
+    said ∙ ap (marked marks) is ∙ computed t laid marks m (a_of t i) (child_there t laid i h six) in
     sym (repetition t laid i h six ∙ ap (λ (z : Bool). cond z LOOP READ) (sym mark))
 
 pub returns-then-kind_from-ne6 : goal.returns-then-kind_from-ne6
@@ -29,10 +29,10 @@ pub returns-then-marked : goal.returns-then-marked
 returns-then-marked c =
     ap (λ (z : Bool). cond z LOOP READ) (sym c.if-marked.true)
     ∙ found c.args.table.now c.requires.0.0 c.args.marks.now c.requires.1 c.args.i c.requires.0.1.0 (sym c.kind_from.ensures.0 ∙ c.if-kind_from-ne6.false)
-      _ c.field_a_from.ensures.0 _ c.marked.ensures
+    _ c.field_a_from.ensures.0 _ c.marked.ensures
 
 pub returns : goal.returns
 returns c =
     ap (λ (z : Bool). cond z LOOP READ) (sym c.if-marked.false)
     ∙ found c.args.table.now c.requires.0.0 c.args.marks.now c.requires.1 c.args.i c.requires.0.1.0 (sym c.kind_from.ensures.0 ∙ c.if-kind_from-ne6.false)
-      _ c.field_a_from.ensures.0 _ c.marked.ensures
+    _ c.field_a_from.ensures.0 _ c.marked.ensures
