@@ -1,11 +1,11 @@
 -- A grammar is free exactly if no left-recursive rule is among the reachable ones; and when the masks alone tell.
-use mathlib.Core.Path.{◌≡◌, refl, sym, ◌∙◌}
-use mathlib.Core.Bool.{Bool, true, false, cond, false≢true}
+use mathlib.Core.Path.{◌≡◌, sym, ◌∙◌}
+use mathlib.Core.Bool.{Bool, true, false, false≢true}
 use mathlib.Core.List.{List}
 use mathlib.Core.Logic.{◌≢◌, ◌↔◌}
 use Prim.Native.Nat.{ℕ, ◌<◌}
 use lib.ListN.{length}
-use Rattle.bits.specs.Mask.{has, Apart}
+use Rattle.bits.specs.Mask.{Apart}
 use Rattle.bits.proofs.Laws.{has_none, no_rule_lem}
 use Rattle.meaning.specs.Grammar.{Grammar, Closed}
 use Rattle.meaning.specs.Report.{LeftRecursive, Free}

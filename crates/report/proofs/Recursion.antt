@@ -10,7 +10,7 @@ use lib.ListN.{length}
 use Rattle.bits.specs.Mask.{has}
 use Rattle.bits.proofs.Laws.{has_none}
 use Rattle.meaning.specs.Grammar.{Node, rule, Grammar, node, root_of, root, Below, Closed}
-use Rattle.meaning.specs.Report.{MayBeEmpty, Starts, by_not, by_rep, by_choice, by_other, by_first, by_second, by_rule, Leads, here, on, LeftRecursive}
+use Rattle.meaning.specs.Report.{MayBeEmpty, Starts, by_not, by_rep, by_choice, by_other, by_first, by_second, by_rule, Leads, here, on}
 use Rattle.meaning.proofs.Chains.{first, then, round}
 use Rattle.meaning.proofs.Choose.{or_split}
 use Rattle.meaning.proofs.Through.{from_start, joins, all_chains}

@@ -1,6 +1,6 @@
 -- Sets of rules: the closure of each rule's set by way of one rule after the other, and one set spread by the others.
 use mathlib.Core.Path.{◌≡◌, refl, sym, ap, ◌∙◌}
-use mathlib.Core.Bool.{Bool, true, false, ◌&&◌, ◌||◌, or-false, and-eq-true_iff}
+use mathlib.Core.Bool.{Bool, true, ◌&&◌, ◌||◌, or-false, and-eq-true_iff}
 use mathlib.Core.List.{List}
 use mathlib.Core.Logic.{⊎_elim}
 use mathlib.Mathlib.Data.Bool.Basic.{or_inl, or_inr}

@@ -1,6 +1,6 @@
 -- 01's sheets A and B. "Report: masks 0 and 1, one set, lowest 0" of A; B is "free", and is so with a left-recursive rule that nobody uses.
 -- By computing of their grammars what the contracts say of the code's answers.
-use mathlib.Core.Path.{◌≡◌, refl, sym, ap, ◌∙◌}
+use mathlib.Core.Path.{◌≡◌, refl, ap, ◌∙◌}
 use mathlib.Core.Bool.{Bool, true, false}
 use mathlib.Core.List.{List}
 use Rattle.meaning.specs.Grammar.{Grammar}

@@ -2,7 +2,6 @@
 use mathlib.Core.Path.{refl}
 use mathlib.Core.Bool.{true, false, false≢true}
 use native.Mathlib.Omega.{arith}
-use borrow.Author.Tests.{not-true, not-false}
 use Rattle.layout.specs.Table.{grammar_of}
 use Rattle.layout.proofs.Laying.{closed}
 use Rattle.report.proofs.Passes.{settled}

@@ -1,5 +1,5 @@
 -- Rounds as long as each finds one more rule: the mask grows with every turn, and it fits 64 bits.
-use Prim.Native.Nat.{◌-◌, ◌≤◌}
+use Prim.Native.Nat.{◌≤◌}
 use native.Mathlib.Omega.{arith}
 use Rattle.layout.specs.Table.{grammar_of}
 use Rattle.layout.proofs.Laying.{well_laid, rule_count, closed}

@@ -1,7 +1,6 @@
 -- A refused table is reported by its code and place alone; an accepted one by both masks, and by whether a left-recursive rule is reachable.
 use mathlib.Core.Path.{refl, ◌∙◌}
 use native.Mathlib.Omega.{arith}
-use borrow.Author.Rules.{rules}
 use Rattle.bits.proofs.Laws.{count_none, lowest_none}
 use Rattle.bits.proofs.Marks.{none_marked}
 use Rattle.sheet.specs.Check.{Accepted}

@@ -1,6 +1,5 @@
 -- A set is widened by the row of each rule in turn.
 use mathlib.Core.Path.{◌≡◌, refl}
-use Prim.Native.Nat.{◌-◌}
 use native.Mathlib.Omega.{arith}
 use lib.ListN.{length}
 use Rattle.layout.specs.Table.{grammar_of}
@@ -16,15 +15,6 @@ loop-a-init c = (omega arith, refl)
 
 pub starts_at-requires : goal.starts_at-requires
 starts_at-requires c = omega (arith, well_laid _ c.requires.0)
-
-pub widened-more-requires : goal.widened-more-requires
-widened-more-requires c = omega arith
-
-pub overflow_add-a : goal.overflow_add-a
-overflow_add-a c = omega arith
-
-pub loop-a-smaller : goal.loop-a-smaller
-loop-a-smaller c = omega arith
 
 pub loop-a-preserved : goal.loop-a-preserved
 loop-a-preserved c =

@@ -1,5 +1,4 @@
 -- Each rule's set is filled with the rules at the start of its root.
-use Prim.Native.Nat.{◌-◌}
 use native.Mathlib.Omega.{arith}
 use lib.ListN.{length-set}
 use Rattle.layout.proofs.Laying.{well_laid, rule_count}
@@ -8,23 +7,8 @@ use Rattle.report.proofs.Tables.{root_starts_lem}
 use Rattle.report.proofs.Sets.{filled_next}
 use Rattle.report.proofs.steps.Goals as goal
 
-pub loop-a-init : goal.loop-a-init
-loop-a-init c = (omega arith, c.requires.2, λ j h. absurd (omega arith))
-
 pub starts_at-requires : goal.starts_at-requires
 starts_at-requires c = omega (arith, well_laid _ c.requires.0)
-
-pub offset_bounds-to-a : goal.offset_bounds-to-a
-offset_bounds-to-a c = omega arith
-
-pub bounds-to-a : goal.bounds-to-a
-bounds-to-a c = omega arith
-
-pub overflow_add-a : goal.overflow_add-a
-overflow_add-a c = omega arith
-
-pub loop-a-smaller : goal.loop-a-smaller
-loop-a-smaller c = omega arith
 
 pub loop-a-preserved : goal.loop-a-preserved
 loop-a-preserved c =
