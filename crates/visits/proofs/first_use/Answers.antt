@@ -7,11 +7,14 @@ use Rattle.visits.proofs.first_use.Goals as goal
 
 pub returns-then-given-ne0 : goal.returns-then-given-ne0
 returns-then-given-ne0 c =
-    let at-if1 = c.if-given-ne0 in record { says = record {
+    let at-if1 = c.if-given-ne0 in record {
+      says = record {
         came = uses_once _ _ c.requires.ready.fit _ _ _ (inl (keeps_yes _ at-if1.true)) _ c.requires.some refl c.use_once.ensures.says.came;
         cells = c.use_once.ensures.says.cells;
         ahead = c.use_once.ensures.says.ahead;
-      }; lent = c.use_once.ensures.lent }
+      };
+      lent = c.use_once.ensures.lent;
+    }
 
 pub use_fresh-requires : goal.use_fresh-requires
 use_fresh-requires c =

@@ -14,10 +14,9 @@ use Rattle.visits.proofs.fields.kind_of.Reads as kind_of_reads
 use Rattle.visits.proofs.list_of.Reads as list_of_reads
 use Rattle.visits.proofs.spot.pos_of.Reads as pos_of_reads
 use Rattle.visits.proofs.ranges.visit_range.Reads as visit_range_reads
-use Prim.Native.Nat.{◌-◌}
 use borrow.Author.Rules.{rules}
 use native.Mathlib.Omega.{arith}
-use mathlib.Core.Logic.{inl, inr, ⊎_elim}
+use mathlib.Core.Logic.{inl, inr}
 use mathlib.Core.Path.{◌≡◌, refl, sym, ◌∙◌}
 use Rattle.visits.specs.Given.{lent, rules_in, left_in, pos_in}
 use Rattle.visits.specs.Says.{applies, Ends}
@@ -71,7 +70,7 @@ apply_met t c =
     let fit = ready.fit in
     let kind = sym c.kind_of.ensures.0 in
     elim c.match-kind_of.branch [
-      apply_lts.in-0 w ↦ rw (w.work-is, w.done-is) (
+      | apply_lts.in-0 w ↦ rw (w.work-is, w.done-is) (
         record {
           came = came_at _ _ fit.short _ _ _ _ (w.answer-done.ensures.0 ∙ w.pos_of.ensures) w.answer-done.ensures.1 refl refl
               (apply_empty _ _ fit _ _ _ ready.node_in ready.words ready.made_within (kind ∙ w.in-0.is) ready.pos_within);
@@ -81,8 +80,8 @@ apply_met t c =
         refl,
       )
       | apply_lts.in-1 w ↦
-        let range = rw w.pos_of-in-1.ensures at w.visit_range-done.ensures in
-        rw (w.work-is, w.done-is) (range_ends _ _ c.args.spot c.args.node _ ready (kind ∙ w.in-1.is) range.0 range.1.0, range.1.1)
+          let range = rw w.pos_of-in-1.ensures at w.visit_range-done.ensures in
+          rw (w.work-is, w.done-is) (range_ends _ _ c.args.spot c.args.node _ ready (kind ∙ w.in-1.is) range.0 range.1.0, range.1.1)
       | apply_lts.in-2 w ↦ rw (w.work-is, w.done-is) (
         record {
           came = apply_rule _ _ fit _ _ _ ready.node_in (kind ∙ w.in-2.is) _ w.a_of.ensures.0
@@ -105,17 +104,17 @@ apply_met t c =
       )
       | apply_lts.in-6 w ↦ rw (w.work-is, w.done-is) (w.visit_repetition-done.ensures.0, w.visit_repetition-done.ensures.1)
       | apply_lts.in_default w ↦
-        let r = w.in_default.in_default-own.rest in
-        let q = above_six c.kind_of.result r.0.0.0.0.0.0.1 r.0.0.0.0.0.1 r.0.0.0.0.1 r.0.0.0.1 r.0.0.1 r.0.1 r.1 in
-        rw (w.work-is, w.done-is) (
-          record {
-            came = came_at _ _ fit.short _ _ _ _ (w.answer-done-in_default.ensures.0 ∙ w.pos_of-in_default.ensures) w.answer-done-in_default.ensures.1 refl refl
-                (apply_above _ _ fit _ _ _ ready.node_in ready.words ready.made_within q.0 (kind ∙ q.1) ready.pos_within);
-            cells = omega arith;
-            ahead = λ p. omega (arith, w.answer-done-in_default.ensures.0, w.pos_of-in_default.ensures);
-          },
-          refl,
-        )
+          let r = w.in_default.in_default-own.rest in
+          let q = above_six c.kind_of.result r.0.0.0.0.0.0.1 r.0.0.0.0.0.1 r.0.0.0.0.1 r.0.0.0.1 r.0.0.1 r.0.1 r.1 in
+          rw (w.work-is, w.done-is) (
+            record {
+              came = came_at _ _ fit.short _ _ _ _ (w.answer-done-in_default.ensures.0 ∙ w.pos_of-in_default.ensures) w.answer-done-in_default.ensures.1 refl refl
+                  (apply_above _ _ fit _ _ _ ready.node_in ready.words ready.made_within q.0 (kind ∙ q.1) ready.pos_within);
+              cells = omega arith;
+              ahead = λ p. omega (arith, w.answer-done-in_default.ensures.0, w.pos_of-in_default.ensures);
+            },
+            refl,
+          )
     ]
 
 apply_kind_of_requires : (t : ℕ) → apply_lts.Need-kind_of-requires (apply_claims t) (apply_at t) apply.Post

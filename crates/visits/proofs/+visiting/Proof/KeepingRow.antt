@@ -22,11 +22,9 @@ use mathlib.Core.List.{[]}
 use mathlib.Core.Logic.{◌≢◌, inl, inr}
 use mathlib.Core.Path.{◌≡◌, refl, sym, ap, ◌∙◌}
 use lib.ListN.{get_or, set}
-use Rattle.meaning.specs.Grammar.{◌⋈◌}
-use Rattle.cells.specs.Cells.{trees_at}
 use Rattle.visits.specs.Given.{lent, a_in, allowance_in, left_in, live_in, pos_in, Moved}
-use Rattle.visits.specs.Words.{turns_in, top_in, made_in, place_in, Added}
-use Rattle.visits.specs.Says.{STOPPED, end_in, list_in, KeptAnswer, Visits, after_visit, reading}
+use Rattle.visits.specs.Words.{turns_in, top_in, made_in, place_in}
+use Rattle.visits.specs.Says.{STOPPED, end_in, KeptAnswer, Visits, after_visit, reading}
 use Rattle.visits.proofs.ByKind.{repetition_child}
 use Rattle.visits.proofs.Ready.{node_known}
 use Rattle.visits.proofs.Depth.{starts_moved, ends_moved}

@@ -30,7 +30,7 @@ use Rattle.visits.proofs.visit_row.Reads as visit_row
 use Rattle.visits.proofs.visit_row.Kinds as visit_row_kinds
 use Rattle.visits.proofs.visit_sequence.Reads as visit_sequence
 use Rattle.visits.proofs.visit_sequence.Kinds as visit_sequence_kinds
-use Prim.Native.Nat.{◌+◌, ◌*◌, ◌-◌}
+use Prim.Native.Nat.{◌+◌, ◌*◌}
 use Rattle.visits.specs.Given.{left_in}
 
 abbrev pub μ_apply : Measures 7 apply_kinds.ps ℕ

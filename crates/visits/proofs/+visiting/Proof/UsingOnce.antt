@@ -9,7 +9,7 @@ use Rattle.visits.proofs.list_of.Reads as list_of_reads
 use Rattle.visits.proofs.trees.planted.Reads as planted_reads
 use Rattle.visits.proofs.spot.pos_of.Reads as pos_of_reads
 use Rattle.visits.proofs.fields.root_of.Reads as root_of_reads
-use Prim.Native.Nat.{◌-◌, ◌≤◌}
+use Prim.Native.Nat.{◌≤◌}
 use native.Mathlib.Omega.{arith}
 use mathlib.Core.Path.{◌≡◌, refl, ◌∙◌}
 use Rattle.meaning.specs.Grammar.{tree, no_trees}

@@ -4,7 +4,6 @@ use Rattle.visits.proofs.visit.Reads as visit
 use Rattle.visits.proofs.visit_choice.Reads as visit_choice
 use Rattle.visits.proofs.+visiting.Lts-visit_choice as visit_choice_lts
 use Rattle.visits.proofs.end_of.Reads as end_of_reads
-use Prim.Native.Nat.{◌-◌}
 use native.Mathlib.Omega.{arith}
 use mathlib.Core.Path.{sym, ◌∙◌}
 use Rattle.visits.specs.Given.{lent, left_in}

@@ -6,7 +6,6 @@ use Rattle.visits.proofs.+visiting.Lts-visit_not as visit_not_lts
 use Rattle.visits.proofs.answer.Reads as answer_reads
 use Rattle.visits.proofs.end_of.Reads as end_of_reads
 use Rattle.visits.proofs.spot.pos_of.Reads as pos_of_reads
-use Prim.Native.Nat.{◌-◌}
 use native.Mathlib.Omega.{arith}
 use mathlib.Core.Path.{refl, sym, ◌∙◌}
 use Rattle.visits.specs.Given.{lent, left_in}

@@ -10,7 +10,6 @@ use Rattle.visits.proofs.fields.a_of.Reads as a_of_reads
 use Rattle.visits.proofs.fields.kind_of.Reads as kind_of_reads
 use Rattle.visits.proofs.spot.pos_of.Reads as pos_of_reads
 use Rattle.visits.proofs.ranges.visit_range.Reads as visit_range_reads
-use Prim.Native.Nat.{◌-◌}
 use native.Mathlib.Omega.{arith}
 use mathlib.Core.Logic.{inl, inr}
 use mathlib.Core.Path.{sym, ◌∙◌}

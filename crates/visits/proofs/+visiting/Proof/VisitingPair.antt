@@ -7,7 +7,6 @@ use Rattle.visits.proofs.visit_sequence.Reads as visit_sequence
 use Rattle.visits.proofs.fields.a_of.Reads as a_of_reads
 use Rattle.visits.proofs.fields.b_of.Reads as b_of_reads
 use Rattle.visits.proofs.fields.kind_of.Reads as kind_of_reads
-use Prim.Native.Nat.{◌-◌}
 use native.Mathlib.Omega.{arith}
 use mathlib.Core.Logic.{⊎_elim}
 use mathlib.Core.Path.{sym, ◌∙◌}

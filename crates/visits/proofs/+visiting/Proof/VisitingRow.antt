@@ -18,7 +18,7 @@ use mathlib.Core.Path.{◌≡◌, refl, sym, ap, ◌∙◌}
 use lib.ListN.{get_or}
 use Rattle.visits.specs.Given.{lent, a_in, left_in, live_in, pos_in, Moved}
 use Rattle.visits.specs.Words.{top_in, made_in}
-use Rattle.visits.specs.Says.{STOPPED, end_in, list_in, Visits, after_visit, reading}
+use Rattle.visits.specs.Says.{STOPPED, end_in, Visits, after_visit, reading}
 use Rattle.visits.proofs.ByKind.{repetition_child}
 use Rattle.visits.proofs.Ready.{node_known}
 use Rattle.visits.proofs.Depth.{starts_moved, ends_moved}

@@ -7,7 +7,6 @@ use Rattle.visits.proofs.end_of.Reads as end_of_reads
 use Rattle.visits.proofs.trees.joined.Reads as joined_reads
 use Rattle.visits.proofs.list_of.Reads as list_of_reads
 use Rattle.visits.proofs.spot.moved.Reads as moved_reads
-use Prim.Native.Nat.{◌-◌}
 use native.Mathlib.Omega.{arith}
 use mathlib.Core.Path.{refl, ◌∙◌}
 use Rattle.visits.specs.Given.{lent, left_in}

@@ -1,5 +1,5 @@
 -- `find_use` finds the live use of a key, or none: the loop keeps that no use after i has it, and none before one of an earlier position has it.
-use Prim.Native.Nat.{ℕ, ◌*◌, ◌-◌, ◌<◌}
+use Prim.Native.Nat.{ℕ, ◌*◌, ◌<◌}
 use mathlib.Core.Logic.{◌≢◌}
 use lib.ListN.{get_or}
 use Rattle.visits.proofs.live.find_use.Given as goal

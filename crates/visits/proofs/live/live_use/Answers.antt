@@ -1,5 +1,4 @@
 -- `live_use` searches for a rule that grows; another has no live use.
-use borrow.Author.Tests.{not-true, not-false}
 use mathlib.Core.Logic.{inl, inr}
 use mathlib.Core.Path.{refl, sym, ◌∙◌}
 use Rattle.visits.proofs.live.live_use.Goals as goal

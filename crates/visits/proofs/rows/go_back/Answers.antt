@@ -1,7 +1,6 @@
 -- `go_back` keeps each pair's answer and joins the trees of the turn before to it, turn by turn: proofs/Returning has the loop.
 use native.Mathlib.Omega.{arith}
 use mathlib.Core.Path.{refl}
-use Rattle.visits.specs.Given.{lent}
 use Rattle.visits.proofs.Returning.{loop_begins, keep_ready, nearer, has_turn, join_ready, loop_turns, room_turns, gone_back}
 use Rattle.visits.proofs.rows.go_back.Goals as goal
 
@@ -29,7 +28,7 @@ pub joined-done-requires : goal.joined-done-requires
 joined-done-requires c =
     let turn = c.turn_of-turn.ensures in
     let both =
-        join_ready _ _ _ _ _ c.requires c.loop-turns.invariant.0 c.loop-turns-test.true c.end_of.ensures c.list_of.ensures c.keep.ensures
+    join_ready _ _ _ _ _ c.requires c.loop-turns.invariant.0 c.loop-turns-test.true c.end_of.ensures c.list_of.ensures c.keep.ensures
     _ turn.turn.0 turn.turn.1 turn.words c.list_of-in-loop-turns.ensures c.list_of-in-loop-turns-2.ensures
     in record { lists = both.0; cell = both.1 }
 
