@@ -78,7 +78,7 @@ module _ (c : Call) where
   refused (sheet.loop w l before d) n = (_, sheet.loop w l before d)
   refused (sheet.read w) n = absurd (n refl)
 
-  when_end : (t : Taken c) (s : State) {visits furthest : ℕ} {r : Answer} → run c ≡ done r s → {o : Outcome} → Ended c visits furthest r o → When (code o)
+  when_end : (t : Taken c) (s : State) {visits furthest : ℕ} {r : Answer} → run c ≡ Run.done r s → {o : Outcome} → Ended c visits furthest r o → When (code o)
   when_end t s e fails = (t, (_, e))
   when_end t s e (rest h) = (t, (_, _, _, e, h))
   when_end t s e (records n h) = (t, (_, _, _, e, (n, h)))
