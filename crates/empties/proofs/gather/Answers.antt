@@ -1,0 +1,42 @@
+-- The rules whose root is marked are gathered one by one.
+use mathlib.Core.Path.{◌≡◌, sym, ap, ◌∙◌}
+use mathlib.Core.Logic.{⊎_elim}
+use Prim.Native.Nat.{◌-◌}
+use native.Mathlib.Omega.{arith}
+use lib.ListN.{length}
+use Rattle.bits.specs.Marks.{marked}
+use Rattle.layout.specs.Table.{grammar_of}
+use Rattle.layout.proofs.Laying.{well_laid, rule_count, root_is}
+use Rattle.empties.proofs.Gathering.{gathered_none, gathered_in, gathered_out}
+use Rattle.empties.proofs.gather.Goals as goal
+
+pub loop-a-init : goal.loop-a-init
+loop-a-init c = (omega arith, gathered_none _ _, omega arith)
+
+pub marked-requires : goal.marked-requires
+marked-requires c = omega (arith, well_laid _ c.requires)
+
+pub add_rule-more-requires : goal.add_rule-more-requires
+add_rule-more-requires c = omega arith
+
+pub overflow_add-a : goal.overflow_add-a
+overflow_add-a c = omega arith
+
+pub loop-a-smaller : goal.loop-a-smaller
+loop-a-smaller c = omega arith
+
+pub loop-a-preserved : goal.loop-a-preserved
+loop-a-preserved c =
+    let l = c.loop-a in
+    let inv = l.invariant in
+    let found = c.marked.ensures ∙ ap (marked c.args.marks.now) (c.root.ensures.0 ∙ sym (root_is c.args.table.now l.a (omega arith))) in
+    ⊎_elim
+    (λ w. (omega arith, rw w.2 (gathered_in _ _ _ _ inv.1 _ (sym found ∙ w.0.taken) w.1.ensures.bits), omega (arith, w.1.ensures.grows)))
+    (λ w. (omega arith, rw w.1 (gathered_out _ _ _ _ inv.1 (sym found ∙ w.0.left)), omega arith))
+    c.if-marked.branch
+
+pub returns : goal.returns
+returns c =
+    let t = c.args.table.now in
+    let e : c.loop-a.a ≡ length (grammar_of t).roots = omega (arith, rule_count t) in
+    (rw (← e) c.loop-a.invariant.1, c.loop-a.invariant.2)
