@@ -145,7 +145,7 @@ pub fn join(work: &mut [u32], top: u32, left: u32, right: u32) -> Held
 }
 
 // Writes the records of a list of trees so that they end at `end`. One tree without children, as most lists are, takes no further call.
-#[cycle(write_list_write_trees)]
+#[cycle(writing)]
 fn write_list(work: &[u32], room: &mut [u8], width: usize, list: u32, end: usize)
     requires arena { Arena work.now list }
     requires few { (records_of (trees_at work.now list) ≤ 1000) × ((0 < width) × (width ≤ 2)) }
@@ -173,7 +173,7 @@ fn write_list(work: &[u32], room: &mut [u8], width: usize, list: u32, end: usize
 
 // The same, cell by cell. Of two joined lists it calls for the one with fewer records and goes on with the other, so calls nest no deeper than the
 // records can be halved.
-#[cycle(write_list_write_trees)]
+#[cycle(writing)]
 fn write_trees(work: &[u32], room: &mut [u8], width: usize, list: u32, end: usize)
     requires arena { Arena work.now list }
     requires few { (records_of (trees_at work.now list) ≤ 1000) × ((0 < width) × (width ≤ 2)) }

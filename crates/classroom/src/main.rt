@@ -1,6 +1,6 @@
-// The program of `lesson`, without its exit status: a program in Rattle has none (program/start.c has).
+// The program of `lesson`, which ends well whatever became of it: the crate program gives its exit status.
 #![tactic(auto)]
 
-fn main() {
-    lesson::kos_lesson();
+fn main(rt: HostRuntime) {
+    lesson::kos_lesson(&rt);
 }

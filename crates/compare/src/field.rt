@@ -1,5 +1,6 @@
 // The fields of a command on standard input: letters, big-endian numbers and bytes.
-use libc::STDIN_FILENO;
+
+const STDIN: i32 = 0;
 
 #[derive(Drop)]
 pub(crate) struct Letter {
@@ -22,7 +23,7 @@ pub(crate) struct Bytes {
 
 pub(crate) fn read_letter() -> Letter {
     let mut bytes = [0u8; 1];
-    let count = io::read_full(STDIN_FILENO, &mut bytes);
+    let count = io::read_full(STDIN, &mut bytes);
     Letter {
         byte: bytes[0],
         is_there: count == 1,
@@ -48,7 +49,7 @@ fn read_bytes(count: usize, place: &mut [u8]) -> bool {
     if count > place.len() {
         return false;
     }
-    io::read_full(STDIN_FILENO, &mut place[..count]) == count
+    io::read_full(STDIN, &mut place[..count]) == count
 }
 
 // A number of up to eight bytes.

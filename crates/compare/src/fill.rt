@@ -48,7 +48,7 @@ pub(crate) fn bytes(room: &mut [u8], fill: u8) {
     let mut i = 0;
     while i < room.len() {
         room[i] = byte;
-        byte = std::num::wrapping_add_u8(byte, 7);
+        byte = byte.wrapping_add(7);
         i += 1;
     }
 }

@@ -11,6 +11,11 @@ ghost use Rattle.lesson.specs.Status.{refused, failed, Ends, status_of};
 
 use layout::Verdict;
 use page::Page;
+use std::fs::File;
+use std::io::Input;
+use std::rt::Files;
+
+const STDERR: i32 = 2;
 
 // The exit status: all was read and printed; there was no sheet to read by; reading or writing failed.
 pub(crate) const DONE: u32 = 0;
@@ -26,7 +31,7 @@ const TABLE: usize = 2_696;
 pub(crate) fn fail(message: &[u8]) -> u32
     ensures { result ≡ failed }
 {
-    io::write_all(libc::STDERR_FILENO, message);
+    io::write_all(STDERR, message);
     FAILED
 }
 
@@ -77,14 +82,14 @@ fn print_verdict(verdict: Verdict) -> u32
 }
 
 // A refused table prints one line and nothing more.
-fn read_by(table: &[u8]) -> u32
+fn read_by<R: Input>(rt: &R, table: &[u8]) -> u32
     ensures { Ends (status_of table.now) result }
 {
     let verdict = sheet::check(table);
     if verdict.code > 0 {
         return print_verdict(verdict);
     }
-    lines::read_lines(table)
+    lines::read_lines(rt, table)
 }
 
 // A file that opens and can't be read, as a folder, prints what an unopened one does.
@@ -96,19 +101,17 @@ fn fail_to_load() -> u32
 }
 
 // The program; what it gives is its exit status.
-#[unsafe(no_mangle)]
-pub extern "C" fn kos_lesson() -> u32
+pub fn kos_lesson<R: Files + Input>(rt: &R) -> u32
     ensures { result ≤ failed }
 {
-    let file = os::open_read(b"class.gram");
-    if file < 0 {
+    let Ok(mut file) = File::open(rt, "class.gram") else {
         return print_grammar(REFUSED);
-    }
+    };
     let mut table = [0u8; TABLE];
-    let loaded = load::load(file, &mut table);
-    libc::close(file);
+    let loaded = load::load(&mut file, &mut table);
+    drop(file);
     if loaded.is_read {
-        return read_by(page::front(&table, loaded.length));
+        return read_by(rt, page::front(&table, loaded.length));
     }
     fail_to_load()
 }

@@ -5,8 +5,8 @@ ghost use Rattle.lesson.specs.Lines.{kept, last_text, Lengthened, Taken, TakenUn
 ghost use Rattle.lesson.specs.Status.{done, Ends};
 
 use answers::{Numbers, Room};
-use libc::STDIN_FILENO;
 use page::Page;
+use std::io::{Input, Read};
 
 const LF: u8 = 10;
 
@@ -98,8 +98,9 @@ struct Turn {
 }
 
 // Reads the input once, and answers the lines that end in what came.
-fn read_some(
+fn read_some<I: Read>(
     table: &[u8],
+    input: &mut I,
     line: &mut Line,
     work: &mut Numbers,
     room: &mut Room,
@@ -108,23 +109,21 @@ fn read_some(
     requires { length ≤ kept }
     ensures { result.length ≤ kept }
 {
-    let mut input = io::buffer();
-    let got = libc::read(STDIN_FILENO, &mut input);
-    if got < 0 {
+    let mut bytes = io::buffer();
+    let Ok(n) = input.read(&mut bytes) else {
         return Turn {
             length,
             state: NOT_READ,
         };
-    }
-    if got == 0 {
+    };
+    if n == 0 {
         return Turn {
             length,
             state: ENDED,
         };
     }
-    let n = io::count(got, &input);
     let mut page = page::blank();
-    let progress = take_all(table, &input[..n], line, work, room, &mut page, length);
+    let progress = take_all(table, &bytes[..n], line, work, room, &mut page, length);
     page::send(&mut page, progress.used);
     if page::failed(&page) {
         return Turn {
@@ -139,11 +138,17 @@ fn read_some(
 }
 
 // A proved loop has to end, and nothing says that the input does: turns are counted down from a number that no run uses up.
-fn read_most(table: &[u8], line: &mut Line, work: &mut Numbers, room: &mut Room) -> Turn {
+fn read_most<I: Read>(
+    table: &[u8],
+    input: &mut I,
+    line: &mut Line,
+    work: &mut Numbers,
+    room: &mut Room,
+) -> Turn {
     let mut length = 0;
     let mut turns = u64::MAX;
     while turns > 0 {
-        let turn = read_some(table, line, work, room, length);
+        let turn = read_some(table, input, line, work, room, length);
         if turn.state != GOING {
             return turn;
         }
@@ -183,13 +188,14 @@ fn read_last(table: &[u8], line: &Line, work: &mut Numbers, room: &mut Room, len
 }
 
 // Answers the lines of the input. Where a read fails, a line that was begun has no answer.
-pub(crate) fn read_lines(table: &[u8]) -> u32
+pub(crate) fn read_lines<R: Input>(rt: &R, table: &[u8]) -> u32
     ensures { Ends done result }
 {
+    let mut input = rt.reader();
     let mut line = [0u8; LINE];
     let mut work = [0u32; answers::NUMBERS];
     let mut room = [0u8; answers::ROOM];
-    let turn = read_most(table, &mut line, &mut work, &mut room);
+    let turn = read_most(table, &mut input, &mut line, &mut work, &mut room);
     if turn.state == NOT_READ {
         return crate::fail(b"classroom: standard input could not be read\n");
     }

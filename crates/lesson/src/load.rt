@@ -1,6 +1,8 @@
 // The table, from a file.
 ghost use Rattle.std.specs.Prelude.{◌≡◌, ◌+◌, ◌≤◌, length as count};
 
+use std::io::Read;
+
 // How many bytes of the file stand on the table, and whether the file could be read.
 #[derive(Drop)]
 pub(crate) struct Loaded {
@@ -9,26 +11,24 @@ pub(crate) struct Loaded {
 }
 
 // One read, onto the table from `done` on: how many bytes it gave.
-fn load_some(file: i32, table: &mut [u8], done: usize) -> Loaded
+fn load_some<F: Read>(file: &mut F, table: &mut [u8], done: usize) -> Loaded
     requires { done ≤ count table.old }
     ensures { (count table.new ≡ count table.old) × (done + result.length ≤ count table.old) }
 {
-    let got = libc::read(file, &mut table[done..]);
-    if got < 0 {
-        return Loaded {
+    match file.read(&mut table[done..]) {
+        Ok(length) => Loaded {
+            length,
+            is_read: true,
+        },
+        Err(_) => Loaded {
             length: 0,
             is_read: false,
-        };
-    }
-    let length = io::count(got, &table[done..]);
-    Loaded {
-        length,
-        is_read: true,
+        },
     }
 }
 
 // Reads the file to its end, or until the table is full.
-pub(crate) fn load(file: i32, table: &mut [u8]) -> Loaded
+pub(crate) fn load<F: Read>(file: &mut F, table: &mut [u8]) -> Loaded
     ensures { (count table.new ≡ count table.old) × (result.length ≤ count table.old) }
 {
     let mut done = 0;

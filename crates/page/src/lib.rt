@@ -5,7 +5,8 @@ ghost use Rattle.std.specs.Prelude.{◌≡◌, [], ◌∷◌, ◌+◌, take, rep
 ghost use Rattle.page.specs.Page.{size, has_failed, marked, Puts};
 ghost use Rattle.page.specs.Decimal.{decimal};
 
-use libc::STDOUT_FILENO;
+// What is put on a page goes to standard output.
+const STDOUT: i32 = 1;
 
 const SIZE: usize = 4_096;
 
@@ -43,7 +44,7 @@ pub fn send(page: &mut Page, used: usize)
     if failed(page) {
         return;
     }
-    let done = io::write_all(STDOUT_FILENO, front(front(page, SIZE), used));
+    let done = io::write_all(STDOUT, front(front(page, SIZE), used));
     mark(page, done);
 }
 

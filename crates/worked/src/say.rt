@@ -17,7 +17,7 @@ pub(crate) const LARGE: usize = 402_104;
 pub(crate) const LARGE_ROOM: usize = 7_005;
 
 // What a reading is asked for, and lent.
-#[derive(Drop)]
+#[derive(Clone, Copy)]
 pub(crate) struct Asked {
     pub whole: bool,
     pub allowance: u64,
@@ -69,7 +69,7 @@ fn read(
     }
 }
 
-fn stored_length(line: &[u8], answer: Reading) -> usize {
+fn stored_length(line: &[u8], answer: &Reading) -> usize {
     if answer.code != 0 {
         return 0;
     }
@@ -80,7 +80,7 @@ fn stored_length(line: &[u8], answer: Reading) -> usize {
     stored::stored_length(version, answer.records as u32) as usize
 }
 
-fn put_answer(page: &mut Page, used: usize, answer: Reading) -> usize {
+fn put_answer(page: &mut Page, used: usize, answer: &Reading) -> usize {
     let mut at = put_next(page, used, answer.code);
     at = put_next(page, at, answer.place);
     at = put_next(page, at, answer.matched);
@@ -177,8 +177,8 @@ fn put_reading(
         &mut work[..n],
         &mut room[..k],
     );
-    let at = put_answer(page, used, answer);
-    put_bytes(page, at, page::front(room, stored_length(line, answer)))
+    let at = put_answer(page, used, &answer);
+    put_bytes(page, at, page::front(room, stored_length(line, &answer)))
 }
 
 pub(crate) fn reading(

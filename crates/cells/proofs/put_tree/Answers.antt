@@ -14,5 +14,5 @@ returns c =
     let saturate = c.saturate-records in
     let a = c.args in
     let p = c.requires in
-    let e : put-cell.new.0 ≡ with_tree a.work.now a.top a.rule a.start a.end a.children = put-cell.ensures ∙ rw saturate.ensures in
-    record { words = e; made = rw e (made_tree a.work.now a.top p.1.0.0 p.0.0 a.rule a.start a.end a.children p.1.1.0 p.1.1.1.0 p.1.1.1.1 p.0.1) }
+    let e : put-cell.new.work ≡ with_tree a.work.now a.top a.rule a.start a.end a.children = put-cell.ensures ∙ rw saturate.ensures in
+    record { words = e; made = rw e (made_tree a.work.now a.top p.room.0 p.arena.0 a.rule a.start a.end a.children p.small.0 p.small.1.0 p.small.1.1 p.arena.1) }

@@ -9,8 +9,8 @@ write_trees-requires c =
     let at-put-head = c.put_head in
     let at-stored-length = c.stored_length-end in
     let p = c.requires in
-    let e = end_is c.args.width at-records-of.result _ p.1.0.0 at-records-of.ensures in
-    record { arena = p.0; few = p.1.0; fits = (omega (arith, e, at-stored-length.ensures), omega (arith, e, at-stored-length.ensures, p.1.1, at-put-head.auto.0)) }
+    let e = end_is c.args.width at-records-of.result _ p.few.0 at-records-of.ensures in
+    record { arena = p.arena; few = p.few; fits = (omega (arith, e, at-stored-length.ensures), omega (arith, e, at-stored-length.ensures, p.fits, at-put-head.auto.room)) }
 
 pub returns : goal.returns
 returns c =
@@ -19,4 +19,4 @@ returns c =
     let at-stored-length = c.stored_length-end in
     let at-write-trees = c.write_trees in
     let p = c.requires in
-    all_wrote c.args.room.now _ _ c.args.width _ _ _ p.1.0.0 p.1.1 at-records-of.ensures at-put-head.ensures at-stored-length.ensures at-write-trees.ensures
+    all_wrote c.args.room.now _ _ c.args.width _ _ _ p.few.0 p.fits at-records-of.ensures at-put-head.ensures at-stored-length.ensures at-write-trees.ensures
