@@ -9,7 +9,7 @@ use Prim.Native.Nat.{ℕ, zero, suc, ◌+◌, ◌*◌, ◌/◌, ◌%◌, ◌<◌
 use lib.ListN.{length, get_or, length-append, get_or-append}
 use lib.Seq.{sets, length-sets, get_or_at}
 use borrow.Author.Tests.{le-ltb, lt-ltb}
-use Rattle.meaning.specs.Grammar.{Trees, no_trees, tree, ◌⋈◌}
+use Rattle.meaning.specs.Grammar.{no_trees, tree, ◌⋈◌}
 use Rattle.meaning.proofs.Sets.{sets_above}
 use Rattle.cells.specs.Cells.{mark, cell_trees, lists, trees_at}
 use Rattle.cells.specs.Arena.{Arena}

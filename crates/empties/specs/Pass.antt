@@ -1,5 +1,5 @@
 -- How it is worked out: what the contracts of the code's own functions cite. Nobody need believe it; Empties says what comes out.
-use Rattle.std.specs.Prelude.{◌≡◌, Bool, true, false, ◌&&◌, ◌||◌, List, ℕ, ◌<◌, ◌≤◌, leb, ltb, length}
+use Rattle.std.specs.Prelude.{◌≡◌, Bool, true, false, ◌&&◌, ◌||◌, List, ℕ, leb, ltb, length}
 use Rattle.bits.specs.Mask.{has}
 use Rattle.bits.specs.Marks.{marked}
 use Rattle.meaning.specs.Grammar.{Node, empty, range, rule, seq, choice, not, rep, Grammar, node}

@@ -114,6 +114,13 @@ module _ (c : Call) where
       (λ q. taken (record { sheet = w; short = s; allowed = a; lent = ltb-false _ _ q }) (of_run (run c) refl)))))
 
   -- ---- The demand.
+  small_end : {visits furthest : ℕ} {r : Answer} {o : Outcome} → Ended c visits furthest r o → code o ≤ LOOP
+  small_end fails = omega arith
+  small_end (rest h) = omega arith
+  small_end (records n h) = omega arith
+  small_end (room n h l) = omega arith
+  small_end (reads n h l) = omega arith
+
   small : {o : Outcome} → Given c o → code o ≤ LOOP
   small (check {code = k} h n) = let e : (check_of c.table).code ≡ k = ap (λ (v : Verdict). v.code) ((exact.given_iff c.table).0 h) in omega (arith, (exact.small_verdict c.table).0)
   small (line w h) = omega arith
@@ -121,11 +128,7 @@ module _ (c : Call) where
   small (work w s a h) = omega arith
   small (taken t (effort e)) = omega arith
   small (taken t (deep e)) = omega arith
-  small (taken t (done e fails)) = omega arith
-  small (taken t (done e (rest h))) = omega arith
-  small (taken t (done e (records n h))) = omega arith
-  small (taken t (done e (room n h l))) = omega arith
-  small (taken t (done e (reads n h l))) = omega arith
+  small (taken t (done e h)) = small_end h
 
   pub given_iff : {o : Outcome} → Given c o ↔ (back c ≡ o)
   given_iff = (gives, λ e. subst (Given c) e given)

@@ -5,7 +5,7 @@ use mathlib.Core.List.{List, [], ◌∷◌}
 use Prim.Native.Nat.{ℕ, zero, suc, ◌+◌, ◌<◌, ◌≤◌}
 use native.Mathlib.Omega.{arith}
 use lib.ListN.{length, get_or}
-use Rattle.meaning.specs.Grammar.{Trees, fail, ok}
+use Rattle.meaning.specs.Grammar.{Trees, Answer, fail, ok}
 use Rattle.meaning.specs.Reading.{State, Run}
 use Rattle.layout.specs.Layout.{READ, SHORT, VERSION, COUNT, LENGTH, ROOT, KIND, FIELD}
 use Rattle.layout.specs.Given as layout
@@ -14,7 +14,7 @@ use Rattle.sheet.specs.Given as sheet
 use Rattle.sheet.specs.Given.{WellFormed}
 use Rattle.stored.specs.Stored.{records_of, stored_length}
 use Rattle.reader.specs.Answer.{longest_line, most_allowance, most_records, Outcome}
-use Rattle.koskorbelu.specs.Demands.{Call, back, code, run, needed, version, EndsBefore, fails, rest, records, room, reads, effort, deep, done, Taken, Given, check, line, allow, work, taken}
+use Rattle.koskorbelu.specs.Demands.{Call, back, code, run, needed, version, EndsBefore, Ended, fails, rest, records, room, reads, effort, deep, done, Taken, Given, check, line, allow, work, taken}
 use Rattle.koskorbelu.proofs.Demand1.{gives, given}
 
 -- Each of some rows, from row k on.
@@ -78,6 +78,13 @@ module _ (c : Call) where
   refused (sheet.loop w l before d) n = (_, sheet.loop w l before d)
   refused (sheet.read w) n = absurd (n refl)
 
+  when_end : (t : Taken c) (s : State) {visits furthest : ℕ} {r : Answer} → run c ≡ Run.done r s → {o : Outcome} → Ended c visits furthest r o → When (code o)
+  when_end t s e fails = (t, (_, e))
+  when_end t s e (rest h) = (t, (_, _, _, e, h))
+  when_end t s e (records n h) = (t, (_, _, _, e, (n, h)))
+  when_end t s e (room n h l) = (t, (_, _, _, e, (n, h, l)))
+  when_end t s e (reads n h l) = (t, (_, _, _, e, (n, h, l)))
+
   when : {o : Outcome} → Given c o → When (code o)
   when (check h n) = refused h n
   when (line w h) = (w, h)
@@ -85,11 +92,7 @@ module _ (c : Call) where
   when (work w s a h) = (w, s, a, h)
   when (taken t (effort e)) = (t, (_, _, e))
   when (taken t (deep e)) = (t, (_, _, e))
-  when (taken t (done e fails)) = (t, (_, e))
-  when (taken t (done e (rest h))) = (t, (_, _, _, e, h))
-  when (taken t (done e (records n h))) = (t, (_, _, _, e, (n, h)))
-  when (taken t (done e (room n h l))) = (t, (_, _, _, e, (n, h, l)))
-  when (taken t (done e (reads n h l))) = (t, (_, _, _, e, (n, h, l)))
+  when (taken t (done e h)) = when_end t _ e h
 
   comes : {o : Outcome} → Given c o → code (back c) ≡ code o
   comes h = ap code (gives c h)

@@ -8,7 +8,6 @@ use native.Mathlib.Numerals.{add-one, unary_clauses}
 use native.Mathlib.Omega.{arith}
 use borrow.Author.Tests.{le-ltb, lt-ltb, le-leb, lt-leb, eq-eqb, ne_eqb}
 use lib.ListN.{length}
-use Rattle.layout.specs.declared.Verdict.{Verdict}
 use Rattle.layout.specs.Table.{byte_at, length_of, nodes_of, most_nodes, rules_of, most_rules, node_at, formula, root_of}
 use Rattle.layout.specs.Layout.{READ, SHORT, VERSION, COUNT, LENGTH, ROOT, verdict, ◌or_else◌, first_fault, in_range, counts_fit, all_equal, root_fault, node_fault, layout_of}
 

@@ -7,7 +7,7 @@ use mathlib.Core.List.{List, [], ◌∷◌, ◌++◌}
 use mathlib.Core.Option.{Option, none, some}
 use lib.ListN.{length, length-append}
 use native.Mathlib.Omega.{arith}
-use Rattle.meaning.specs.Grammar.{Node, rule, Grammar, node, root_of, root, Below, Closed, Answer, Note, noted, look}
+use Rattle.meaning.specs.Grammar.{Node, rule, Grammar, node, root_of, root, Below, Closed, Answer, Note, look}
 use Rattle.meaning.specs.Rules.{Plain, empty1, char1, char2, var}
 use Rattle.meaning.specs.Report.{bound}
 use Rattle.meaning.specs.Reading.{State, starting, spent, keeping, made, Visit, deep, wrapped, keep, keeps, use_by, use_rule, recall, visited, in_place, visit, read_by}

@@ -1,7 +1,7 @@
 -- In a free grammar no rule needs to become live: the bounded rules answer there what the plain rules answer, so these answer on every line.
-use mathlib.Core.Path.{◌≡◌, refl, sym, subst}
+use mathlib.Core.Path.{refl}
 use Prim.Native.Nat.{ℕ, ◌<◌, ◌≤◌}
-use mathlib.Core.Bool.{Bool, true, false}
+use mathlib.Core.Bool.{Bool, false}
 use mathlib.Core.List.{List, []}
 use lib.ListN.{length}
 use Rattle.meaning.specs.Grammar.{Node, Grammar, node, Closed, Trees, Answer, ok, Note, look}

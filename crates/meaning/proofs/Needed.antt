@@ -9,7 +9,7 @@ use mathlib.Core.List.{List, []}
 use mathlib.Core.Option.{none, some}
 use lib.ListN.{length}
 use native.Mathlib.Omega.{arith}
-use Rattle.meaning.specs.Grammar.{Node, rule, seq, choice, not, rep, Grammar, node, root_of, root, Below, Closed, Trees, Answer, fail, ok, wrap, Note, noted, look}
+use Rattle.meaning.specs.Grammar.{Node, rule, seq, Grammar, node, root_of, root, Below, Closed, Trees, Answer, fail, ok, wrap, Note, noted, look}
 use Rattle.meaning.specs.Rules.{Goal, at, inc, Amount, nothing, asking, ◌⊕◌, visiting, in_place, Bounded, every_rule, Reads}
 use Rattle.meaning.specs.Rules as R
 use Rattle.meaning.specs.Report.{Starts, by_not, by_rep, by_choice, by_other, by_first, by_second, by_rule, Leads, here, on, to_second, Reachable, start, LeftRecursive}

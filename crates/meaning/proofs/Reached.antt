@@ -3,7 +3,7 @@ use Prim.Native.Nat.{ℕ, ◌<◌}
 use lib.ListN.{length}
 use Rattle.meaning.specs.Grammar.{Node, rule, Grammar, root}
 use Rattle.meaning.specs.Report.{Starts, by_not, by_rep, by_choice, by_other, by_first, by_second, by_rule, Chain, Leads, here, on, LeftRecursive, Free}
-use Rattle.meaning.specs.Report.{Child, to_first, to_second, to_one, to_other, to_denied, to_repeated, Reachable, start, used}
+use Rattle.meaning.specs.Report.{Child, to_first, to_second, to_one, to_other, to_denied, to_repeated, Reachable, used}
 
 module _ (g : Grammar) where
   -- 01: "A grammar is free if no rule in its table is left-recursive." What was free by that is free.

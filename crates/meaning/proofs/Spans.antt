@@ -8,7 +8,7 @@ use mathlib.Core.Option.{some}
 use lib.ListN.{length}
 use borrow.Author.Tests.{ltb-true}
 use native.Mathlib.Omega.{arith}
-use Rattle.meaning.specs.Grammar.{Node, empty, rule, choice, Grammar, node, root, Answer, fail, ok, wrap, fits, Note, noted, look}
+use Rattle.meaning.specs.Grammar.{Node, rule, choice, Grammar, node, root, Answer, fail, ok, wrap, fits, Note, noted, look}
 use Rattle.meaning.specs.Rules.{Goal, at, inc, Amount, Bounded}
 use Rattle.meaning.specs.Rules as R
 use Rattle.meaning.specs.Report.{MayBeEmpty, of_empty, of_not, of_rep, of_rule, of_seq, of_first, of_second}

@@ -1,5 +1,5 @@
 -- 01, "What comes back": the numbers of a reading, with the one that 02's W-203 adds, and what it leaves in the working numbers and in the room.
-use Rattle.std.specs.Prelude.{ℕ, ◌+◌, ◌*◌, ◌≡◌, Bool, ◌&&◌, ◌||◌, cond, List, ◌++◌, length, drop, replicate, ltb, eqb}
+use Rattle.std.specs.Prelude.{ℕ, ◌+◌, ◌≡◌, Bool, ◌&&◌, ◌||◌, cond, List, ◌++◌, length, drop, replicate, ltb, eqb}
 use Rattle.meaning.specs.Grammar.{Trees, fail, ok}
 pub use Rattle.meaning.specs.Reading.{EFFORT, DEEP}
 pub use Rattle.visits.specs.Given.{longest_line, most_allowance, work_needed}

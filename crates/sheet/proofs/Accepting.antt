@@ -1,9 +1,8 @@
 -- What the check's acceptance says of a table: it is well formed, so it is laid out well, and its grammar has no repetition of nothing.
-use mathlib.Core.Path.{◌≡◌, sym, ap, ◌∙◌}
+use mathlib.Core.Path.{◌≡◌, sym, ◌∙◌}
 use mathlib.Core.List.{List}
 use Prim.Native.Nat.{ℕ}
 use Rattle.meaning.specs.Report.{Consuming}
-use Rattle.layout.specs.declared.Verdict.{Verdict}
 use Rattle.layout.specs.Table.{grammar_of}
 use Rattle.layout.specs.Layout.{READ, Laid}
 use Rattle.layout.proofs.Exact.{laid_iff}

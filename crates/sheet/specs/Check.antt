@@ -1,5 +1,5 @@
 -- 01, "What comes back", and 02's W-209: the codes of the table check with their places, in their order.
-use Rattle.std.specs.Prelude.{◌≡◌, Bool, true, false, cond, List, ℕ, get_or}
+use Rattle.std.specs.Prelude.{◌≡◌, Bool, false, cond, List, ℕ, get_or}
 use Rattle.meaning.specs.Grammar.{Node, empty, range, rule, seq, choice, not, rep, node}
 use Rattle.meaning.specs.Decide.{empty_nodes}
 use Rattle.layout.specs.declared.Verdict.{Verdict}

@@ -8,7 +8,7 @@ use lib.ListN.{length, get_or, set}
 use borrow.Author.Tests.{lt-ltb, le-ltb, le-leb, lt-leb}
 use native.Mathlib.Numerals.{add-one}
 use Rattle.meaning.specs.Grammar.{fits, Note, Grammar}
-use Rattle.meaning.specs.Reading.{State, spent, asked, Run, effort, deep, done, Visit, byte, counted, Way, visited, visit}
+use Rattle.meaning.specs.Reading.{State, spent, asked, Run, deep, done, Visit, byte, counted, Way, visited, visit}
 use Rattle.meaning.proofs.InPlace.{visit_out, visit_open}
 use Rattle.meaning.proofs.Spans.{fits_inside}
 use Rattle.visits.specs.Given.{Given, allowance_in, way_in, grammar_in, Fit}

@@ -1,27 +1,26 @@
 -- A row where answers are kept: what the loop keeps true, and what each way out of it comes to. Over the words with the number of turns lowered to what it was before the row,
 -- all that was done since is one step.
-use mathlib.Core.Path.{◌≡◌, refl, sym, subst, ap, ◌∙◌}
+use mathlib.Core.Path.{◌≡◌, refl, sym, ap, ◌∙◌}
 use mathlib.Core.Logic.{◌≢◌, ◌⊎◌, inl, inr}
-use mathlib.Core.Bool.{Bool, true, false}
+use mathlib.Core.Bool.{true}
 use mathlib.Core.List.{List, [], ◌∷◌}
 use mathlib.Core.Option.{none}
-use Prim.Native.Nat.{ℕ, suc, ◌+◌, ◌-◌, ◌*◌, ◌<◌, ◌≤◌}
+use Prim.Native.Nat.{ℕ, suc, ◌+◌, ◌*◌, ◌<◌, ◌≤◌}
 use native.Mathlib.Omega.{arith}
-use lib.ListN.{length, get_or, set, length-set}
+use lib.ListN.{length, get_or, set}
 use lib.Seq.{get_or-set_same, get_or-set_other, set_comm, set-get_or}
-use Rattle.meaning.specs.Grammar.{Trees, ◌⋈◌, Answer, fail, ok, Note, node}
-use Rattle.meaning.specs.Reading.{State, Run, done, after, joined, apply, keep, keeps, way_of, use_rule, recall, visited}
+use Rattle.meaning.specs.Grammar.{Trees, Answer, Note, node}
+use Rattle.meaning.specs.Reading.{State, Run, after, joined, apply, keep, way_of, use_rule, recall, visited}
 use Rattle.cells.specs.Cells.{trees_at}
 use Rattle.cells.proofs.Frame.{SameCells, trees_same}
-use Rattle.visits.specs.Given.{Given, kind_in, a_in, nodes_in, keeps_in, grows_in, base_in, allowance_in, grammar_in, Fit}
-use Rattle.visits.specs.Words.{turns_in, place_in, kept_as, kept_at, turn_at, turn_list, Turn, Waiting, with_turn, Added, Stands, Words, Same}
+use Rattle.visits.specs.Given.{Given, kind_in, a_in, nodes_in, keeps_in, grows_in, allowance_in, grammar_in, Fit}
+use Rattle.visits.specs.Words.{turns_in, place_in, kept_as, kept_at, turn_at, turn_list, Turn, Waiting, with_turn, Stands, Words}
 use Rattle.visits.specs.Says.{Visited, FAILED, STOPPED, Came, reading, applies, opens, going_back}
-use Rattle.visits.proofs.Frame.{pair_in, same_trees, alike_trees, made_same, written_alike, written_same, written_words}
-use Rattle.visits.proofs.Steps.{came_after, came_when, came_as, then_match, then_fail, stopped, came_made, came_at}
+use Rattle.visits.proofs.Frame.{alike_trees, written_alike, written_words}
+use Rattle.visits.proofs.Steps.{came_after, came_when, came_as, stopped}
 use Rattle.visits.proofs.Lowering.{lowered, low_words, low_came}
 use Rattle.visits.proofs.Waiting.{back_none, back_turn, waiting_least, waiting_same, turned_other, turned_long, turned_same, turned_cells, turned_words, turned_stands, turned_pos, turned_list, turned_lowered}
 use Rattle.visits.proofs.Nodes.{result}
-use Rattle.visits.proofs.Keeping.{by_same, visited_fail, visited_match}
 use Rattle.visits.proofs.Rowing.{row_stop, row_none, row_empty, row_on, row_turn, turn_effort, turn_open}
 
 module _ (given : Given) (line : List ℕ) (left i : ℕ) where

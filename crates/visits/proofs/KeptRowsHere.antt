@@ -1,9 +1,9 @@
 -- A row where answers are kept, by the spot where its repetition stands: each turn's child may start, and each way out of the loop is the end of the repetition.
 use mathlib.Core.Path.{◌≡◌, refl, sym, ap, ◌∙◌}
 use mathlib.Core.Logic.{◌≢◌, ◌⊎◌, inl, inr}
-use mathlib.Core.Bool.{true, false}
+use mathlib.Core.Bool.{true}
 use mathlib.Core.List.{List, []}
-use Prim.Native.Nat.{ℕ, suc, ◌+◌, ◌-◌, ◌*◌, ◌<◌, ◌≤◌}
+use Prim.Native.Nat.{ℕ, ◌+◌, ◌-◌, ◌*◌, ◌<◌, ◌≤◌}
 use native.Mathlib.Omega.{arith}
 use lib.ListN.{length, get_or, set, length-set}
 use lib.Seq.{get_or-set_other}
@@ -12,11 +12,11 @@ use Rattle.meaning.specs.Reading.{after, joined}
 use Rattle.meaning.proofs.Answers.{clash}
 use Rattle.cells.specs.Cells.{trees_at}
 use Rattle.cells.specs.Arena.{Arena}
-use Rattle.visits.specs.Given.{Given, lent, kind_in, a_in, nodes_in, keeps_in, base_in, allowance_in, left_in, live_in, pos_in, Moved}
+use Rattle.visits.specs.Given.{Given, lent, kind_in, a_in, nodes_in, keeps_in, allowance_in, left_in, live_in, pos_in, Moved}
 use Rattle.visits.specs.Words.{turns_in, top_in, made_in, place_in, turn_at, Waiting, with_turn, HasTurn, Words, Added, Roomy, EnteredInPlace}
 use Rattle.visits.specs.Says.{FAILED, STOPPED, end_in, list_in, KeptAnswer, after_visit, Came, Visits, reading, applies, opens, Starts, Ends, Returns, Returned}
 use Rattle.visits.proofs.Keeping.{by_same}
-use Rattle.visits.proofs.Frame.{pair_in, count_made, written_top, written_words, written_same}
+use Rattle.visits.proofs.Frame.{count_made, written_top, written_words, written_same}
 use Rattle.visits.proofs.Steps.{came_at}
 use Rattle.visits.proofs.Nodes.{result, came_joined}
 use Rattle.visits.proofs.Lowering.{lowered, lowered_top, lowered_made}
@@ -24,7 +24,7 @@ use Rattle.visits.proofs.Waiting.{waiting_least, waiting_same}
 use Rattle.visits.proofs.Opening.{roomy, kept_answered}
 use Rattle.visits.proofs.Pairs.{added_made}
 use Rattle.visits.proofs.Attempts.{room_tree}
-use Rattle.visits.proofs.KeptRows.{KeptRow, kept_begins, room, waiting_now, kept_refused, kept_ends, kept_effort, kept_found, kept_turns}
+use Rattle.visits.proofs.KeptRows.{KeptRow, kept_begins, waiting_now, kept_refused, kept_ends, kept_effort, kept_found, kept_turns}
 
 -- What the loop keeps true, where the numbers stand in the words.
 abbrev pub KeptRowIn : (given : Given) (line : List ℕ) (spot i : ℕ) (w₀ w : List ℕ) (x n : ℕ) → Type 0

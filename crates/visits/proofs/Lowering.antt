@@ -1,14 +1,13 @@
 -- The number of turns that wait is lowered in its word: what the words stand for else does not change, and a step that leaves the turns that waited leaves those that wait then.
-use mathlib.Core.Path.{◌≡◌, refl, sym, subst, ◌∙◌}
-use mathlib.Core.Logic.{◌≢◌}
+use mathlib.Core.Path.{◌≡◌, sym, subst, ◌∙◌}
 use mathlib.Core.List.{List}
-use Prim.Native.Nat.{ℕ, ◌+◌, ◌*◌, ◌<◌, ◌≤◌}
+use Prim.Native.Nat.{ℕ, ◌*◌, ◌<◌, ◌≤◌}
 use native.Mathlib.Omega.{arith}
-use lib.ListN.{length, get_or, set, length-set}
+use lib.ListN.{length, set}
 use lib.Seq.{get_or-set_same, get_or-set_other, set-set, set-get_or}
 use Rattle.meaning.specs.Grammar.{fail, ok, Note}
 use Rattle.meaning.specs.Reading.{State, Run, effort, deep, done}
-use Rattle.visits.specs.Given.{Given, longest_line, allowance_in, Fit}
+use Rattle.visits.specs.Given.{Given, longest_line, Fit}
 use Rattle.visits.specs.Words.{turns_in, top_in, made_in, Stands, Words, Same}
 use Rattle.visits.specs.Says.{Visited, Says, Came}
 use Rattle.visits.proofs.Frame.{alike_trees, alike_stands, written_kept, written_alike, written_words}

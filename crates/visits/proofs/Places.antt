@@ -1,6 +1,5 @@
 -- The place of a kept answer is a small number.
 use native.Mathlib.Nat.{mul-le-mul}
-use native.Mathlib.Omega.{arith}
 use Prim.Native.Nat.{ℕ, ◌*◌, ◌≤◌}
 use Rattle.visits.specs.Given.{longest_line}
 

@@ -6,15 +6,15 @@ use Prim.Native.Nat.{ℕ, suc, ◌+◌, ◌-◌, ◌*◌, ◌<◌, ◌≤◌}
 use native.Mathlib.Omega.{arith}
 use lib.ListN.{length, get_or, set, length-set}
 use lib.Seq.{get_or-set_same, get_or-set_other, set_comm}
-use Rattle.meaning.specs.Grammar.{Trees, ◌⋈◌, fail, Note}
-use Rattle.meaning.specs.Reading.{State, Run, done, after, joined, keep}
+use Rattle.meaning.specs.Grammar.{Trees, ◌⋈◌, Note}
+use Rattle.meaning.specs.Reading.{State, Run, after, joined, keep}
 use Rattle.cells.specs.Cells.{trees_at}
 use Rattle.cells.specs.Arena.{Arena}
 use Rattle.cells.proofs.Frame.{SameCells, same_below, trees_same, arena_same, arena_below}
-use Rattle.visits.specs.Given.{Given, lent, base_in, allowance_in, room_in, live_in, pos_in, Fit}
+use Rattle.visits.specs.Given.{Given, lent, base_in, allowance_in, room_in, live_in, pos_in}
 use Rattle.visits.specs.Words.{turns_in, top_in, made_in, place_in, turn_pos, turn_list, Turn, IsTurn, Waiting, HasTurn, HasLists, HasCell, Words, Added, Roomy, Kept}
 use Rattle.visits.specs.Says.{Visited, FAILED, STOPPED, end_in, list_in, after_visit, Came, going_back, Returns, Returned}
-use Rattle.visits.proofs.Frame.{made_same, made_words, made_stands}
+use Rattle.visits.proofs.Frame.{made_words}
 use Rattle.visits.proofs.Steps.{came_as, came_at}
 use Rattle.visits.proofs.Lowering.{lowered, lowered_top, lowered_made, low_words}
 use Rattle.visits.proofs.Waiting.{back_none, back_turn, waiting_least, waiting_same}

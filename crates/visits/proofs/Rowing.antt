@@ -1,18 +1,18 @@
 -- Rows: a repetition's visits of itself, each in the place of the one before. What one turn comes to, and what the loop keeps true where nothing is kept.
 use mathlib.Core.Path.{◌≡◌, refl, sym, ap, ◌∙◌}
 use mathlib.Core.Logic.{◌≢◌, ◌⊎◌, inl, inr}
-use mathlib.Core.Bool.{Bool, true, false}
+use mathlib.Core.Bool.{false}
 use mathlib.Core.List.{List}
 use Prim.Native.Nat.{ℕ, suc, ◌+◌, ◌*◌, ◌<◌, ◌≤◌}
 use native.Mathlib.Omega.{arith}
 use lib.ListN.{length, set}
 use Rattle.meaning.specs.Grammar.{Trees, no_trees, ◌⋈◌, Answer, fail, ok, Note, node}
-use Rattle.meaning.specs.Reading.{State, Run, done, after, joined, repeated, apply, Way, way_of, use_rule, visited}
+use Rattle.meaning.specs.Reading.{State, Run, done, after, joined, repeated, apply, way_of, use_rule, visited}
 use Rattle.meaning.proofs.Answers.{join_none, join_twice}
 use Rattle.cells.specs.Cells.{trees_at}
 use Rattle.cells.proofs.Frame.{trees_none}
 use Rattle.visits.specs.Given.{Given, kind_in, a_in, nodes_in, keeps_in, grows_in, allowance_in, grammar_in, Fit}
-use Rattle.visits.specs.Words.{turns_in, Added, Stands, Words, Same}
+use Rattle.visits.specs.Words.{turns_in, Added, Words, Same}
 use Rattle.visits.specs.Says.{Visited, FAILED, STOPPED, Came, reading, uses, applies, opens}
 use Rattle.visits.proofs.Frame.{same_none, same_then, same_trees, made_same, made_words, made_stands, written_same, written_words}
 use Rattle.visits.proofs.Steps.{came_after, then_match, stopped, came_as, still}

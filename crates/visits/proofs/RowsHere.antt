@@ -1,17 +1,17 @@
 -- A row where nothing is kept, by the spot where its repetition stands: each turn's child may start, and each way out of the loop is the end of the repetition.
-use mathlib.Core.Path.{◌≡◌, refl, sym, ap, ◌∙◌}
+use mathlib.Core.Path.{◌≡◌, refl, ap, ◌∙◌}
 use mathlib.Core.Logic.{◌≢◌, ◌⊎◌, inl, inr}
-use mathlib.Core.Bool.{true, false}
+use mathlib.Core.Bool.{false}
 use mathlib.Core.List.{List, []}
-use Prim.Native.Nat.{ℕ, suc, ◌+◌, ◌-◌, ◌*◌, ◌<◌, ◌≤◌}
+use Prim.Native.Nat.{ℕ, ◌+◌, ◌-◌, ◌*◌, ◌<◌, ◌≤◌}
 use native.Mathlib.Omega.{arith}
 use lib.ListN.{length, set}
 use Rattle.meaning.specs.Grammar.{◌⋈◌}
 use Rattle.cells.specs.Cells.{trees_at}
 use Rattle.cells.specs.Arena.{Arena}
-use Rattle.visits.specs.Given.{Given, lent, kind_in, a_in, nodes_in, keeps_in, allowance_in, left_in, live_in, pos_in, Moved}
+use Rattle.visits.specs.Given.{Given, lent, kind_in, a_in, nodes_in, keeps_in, allowance_in, left_in, live_in, pos_in}
 use Rattle.visits.specs.Words.{turns_in, top_in, made_in, Added, EnteredInPlace}
-use Rattle.visits.specs.Says.{FAILED, STOPPED, end_in, list_in, after_visit, Came, Visits, reading, applies, Starts, Ends}
+use Rattle.visits.specs.Says.{FAILED, STOPPED, end_in, list_in, after_visit, Visits, reading, applies, Starts, Ends}
 use Rattle.visits.proofs.Frame.{count_made, written_top}
 use Rattle.visits.proofs.Steps.{came_at}
 use Rattle.visits.proofs.Living.{order_same}

@@ -1,5 +1,5 @@
 -- Turns that wait: their words, and what leaves them; a turn written as the newest.
-use mathlib.Core.Path.{◌≡◌, refl, sym, ap, ◌∙◌}
+use mathlib.Core.Path.{◌≡◌, refl, ap, ◌∙◌}
 use mathlib.Core.Logic.{◌≢◌}
 use mathlib.Core.List.{List, [], ◌∷◌}
 use Prim.Native.Nat.{ℕ, ◌+◌, ◌*◌, ◌<◌, ◌≤◌}
@@ -8,7 +8,6 @@ use lib.ListN.{length, get_or, set, length-set}
 use lib.Seq.{get_or-set_same, get_or-set_other, set-set, set_comm}
 use Rattle.meaning.specs.Grammar.{Note}
 use Rattle.meaning.specs.Reading.{State, Run, effort, deep, done, after, joined, keep}
-use Rattle.cells.specs.Cells.{trees_at}
 use Rattle.cells.proofs.Frame.{SameCells, trees_same, arena_same}
 use Rattle.visits.specs.Given.{Given, base_in, allowance_in}
 use Rattle.visits.specs.Words.{turns_in, place_in, turn_at, turn_pos, turn_list, Turn, IsTurn, Waiting, with_turn, Stands, Words, Same}

@@ -133,7 +133,7 @@ pub fn furthest_visited(work: &[u32]) -> u32
 fn enter(given: &[u64; 4], work: &mut &mut [u32], spot: u64) -> u32
     requires { (2048 ≤ length work.old.now) × (allowance_in (lent [] given.now) ≤ most_allowance) }
     ensures says { Entered (lent [] given.now) work.old.now work.new.now spot result }
-    ensures lent { work.new.name ≡ work.old.name }
+    ensures lent { work.new.ghost_name ≡ work.old.ghost_name }
 {
     let allowance = given[ALLOWANCE] as u32;
     let made = work[MADE];
@@ -148,7 +148,7 @@ fn enter(given: &[u64; 4], work: &mut &mut [u32], spot: u64) -> u32
     0
 }
 
-#[cycle(apply_keep_row_use_fresh_use_live_use_once_use_rule_visit_visit_choice_visit_not_visit_open_visit_pair_visit_repetition_visit_row_visit_sequence)]
+#[cycle(visiting)]
 fn visit_sequence(
     given: &[u64; 4],
     table: &&[u8],
@@ -161,7 +161,7 @@ fn visit_sequence(
     requires ready { StartsHere (lent table.now.now given.now) line.now.now work.old.now spot x }
     requires open { IsOpen spot × (y < nodes_in (lent table.now.now given.now)) }
     ensures says { Does (lent table.now.now given.now) line.now.now work.old.now work.new.now spot result (sequencing x y) }
-    ensures lent { work.new.name ≡ work.old.name }
+    ensures lent { work.new.ghost_name ≡ work.old.ghost_name }
 {
     let a = visit(given, table, line, work, spot, x);
     let end = end_of(a);
@@ -176,7 +176,7 @@ fn visit_sequence(
     joined(*work, last, list_of(a), list_of(b))
 }
 
-#[cycle(apply_keep_row_use_fresh_use_live_use_once_use_rule_visit_visit_choice_visit_not_visit_open_visit_pair_visit_repetition_visit_row_visit_sequence)]
+#[cycle(visiting)]
 fn visit_choice(
     given: &[u64; 4],
     table: &&[u8],
@@ -189,7 +189,7 @@ fn visit_choice(
     requires ready { StartsHere (lent table.now.now given.now) line.now.now work.old.now spot x }
     requires open { IsOpen spot × (y < nodes_in (lent table.now.now given.now)) }
     ensures says { Does (lent table.now.now given.now) line.now.now work.old.now work.new.now spot result (choosing x y) }
-    ensures lent { work.new.name ≡ work.old.name }
+    ensures lent { work.new.ghost_name ≡ work.old.ghost_name }
 {
     let a = visit(given, table, line, work, spot, x);
     let end = end_of(a);
@@ -199,7 +199,7 @@ fn visit_choice(
     visit(given, table, line, work, spot, y)
 }
 
-#[cycle(apply_keep_row_use_fresh_use_live_use_once_use_rule_visit_visit_choice_visit_not_visit_open_visit_pair_visit_repetition_visit_row_visit_sequence)]
+#[cycle(visiting)]
 fn visit_not(
     given: &[u64; 4],
     table: &&[u8],
@@ -211,7 +211,7 @@ fn visit_not(
     requires ready { StartsHere (lent table.now.now given.now) line.now.now work.old.now spot x }
     requires open { IsOpen spot }
     ensures says { Does (lent table.now.now given.now) line.now.now work.old.now work.new.now spot result (denying x) }
-    ensures lent { work.new.name ≡ work.old.name }
+    ensures lent { work.new.ghost_name ≡ work.old.ghost_name }
 {
     let a = visit(given, table, line, work, spot, x);
     let end = end_of(a);
@@ -225,7 +225,7 @@ fn visit_not(
 }
 
 // A repetition where nothing is kept: its child, turn by turn, and the trees are joined as they come.
-#[cycle(apply_keep_row_use_fresh_use_live_use_once_use_rule_visit_visit_choice_visit_not_visit_open_visit_pair_visit_repetition_visit_row_visit_sequence)]
+#[cycle(visiting)]
 fn visit_row(
     given: &[u64; 4],
     table: &&[u8],
@@ -238,7 +238,7 @@ fn visit_row(
     requires open { IsOpen spot × (kind_in (lent table.now.now given.now) node ≡ 6) }
     requires plain { keeps_in (lent table.now.now given.now) ≡ false }
     ensures says { Does (lent table.now.now given.now) line.now.now work.old.now work.new.now spot result (here applies node) }
-    ensures lent { work.new.name ≡ work.old.name }
+    ensures lent { work.new.ghost_name ≡ work.old.ghost_name }
 {
     let x = a_of(given, *table, node);
     let mut here = spot;
@@ -267,7 +267,7 @@ fn visit_row(
 }
 
 // A repetition where answers are kept: each turn waits until the row ends, and then the row is gone back over, to keep the answer of each pair.
-#[cycle(apply_keep_row_use_fresh_use_live_use_once_use_rule_visit_visit_choice_visit_not_visit_open_visit_pair_visit_repetition_visit_row_visit_sequence)]
+#[cycle(visiting)]
 fn keep_row(
     given: &[u64; 4],
     table: &&[u8],
@@ -280,7 +280,7 @@ fn keep_row(
     requires open { IsOpen spot × (kind_in (lent table.now.now given.now) node ≡ 6) }
     requires free { keeps_in (lent table.now.now given.now) ≡ true }
     ensures says { Does (lent table.now.now given.now) line.now.now work.old.now work.new.now spot result (here applies node) }
-    ensures lent { work.new.name ≡ work.old.name }
+    ensures lent { work.new.ghost_name ≡ work.old.ghost_name }
 {
     let x = a_of(given, *table, node);
     let before = work[TURNS];
@@ -335,7 +335,7 @@ fn keep_row(
 }
 
 // A repetition: its child, then itself.
-#[cycle(apply_keep_row_use_fresh_use_live_use_once_use_rule_visit_visit_choice_visit_not_visit_open_visit_pair_visit_repetition_visit_row_visit_sequence)]
+#[cycle(visiting)]
 fn visit_repetition(
     given: &[u64; 4],
     table: &&[u8],
@@ -347,7 +347,7 @@ fn visit_repetition(
     requires ready { StartsHere (lent table.now.now given.now) line.now.now work.old.now spot node }
     requires open { IsOpen spot × (kind_in (lent table.now.now given.now) node ≡ 6) }
     ensures says { Does (lent table.now.now given.now) line.now.now work.old.now work.new.now spot result (here applies node) }
-    ensures lent { work.new.name ≡ work.old.name }
+    ensures lent { work.new.ghost_name ≡ work.old.ghost_name }
 {
     if given[KEPT_EACH] == 0 {
         return visit_row(given, table, line, work, spot, node);
@@ -356,7 +356,7 @@ fn visit_repetition(
 }
 
 // A use of a rule that doesn't become live: its root is visited once.
-#[cycle(apply_keep_row_use_fresh_use_live_use_once_use_rule_visit_visit_choice_visit_not_visit_open_visit_pair_visit_repetition_visit_row_visit_sequence)]
+#[cycle(visiting)]
 fn use_once(
     given: &[u64; 4],
     table: &&[u8],
@@ -368,7 +368,7 @@ fn use_once(
     requires ready { StartsUse (lent table.now.now given.now) line.now.now work.old.now spot rule }
     requires open { IsOpen spot × HasRule (lent table.now.now given.now) rule }
     ensures says { Does (lent table.now.now given.now) line.now.now work.old.now work.new.now spot result (rooting rule) }
-    ensures lent { work.new.name ≡ work.old.name }
+    ensures lent { work.new.ghost_name ≡ work.old.ghost_name }
 {
     let pos = pos_of(spot);
     let root = root_of(*table, rule);
@@ -382,7 +382,7 @@ fn use_once(
 }
 
 // A use that becomes live and grows: each attempt visits the root while the match before is held, as list `held`.
-#[cycle(apply_keep_row_use_fresh_use_live_use_once_use_rule_visit_visit_choice_visit_not_visit_open_visit_pair_visit_repetition_visit_row_visit_sequence)]
+#[cycle(visiting)]
 fn use_live(
     given: &[u64; 4],
     table: &&[u8],
@@ -395,7 +395,7 @@ fn use_live(
     requires open { IsOpen spot × HasRule (lent table.now.now given.now) rule }
     requires fresh { NotLive work.old.now (live_in spot) (key_of rule (pos_in spot)) }
     ensures says { Does (lent table.now.now given.now) line.now.now work.old.now work.new.now spot result (here grows rule) }
-    ensures lent { work.new.name ≡ work.old.name }
+    ensures lent { work.new.ghost_name ≡ work.old.ghost_name }
 {
     let root = root_of(*table, rule);
     let pos = pos_of(spot);
@@ -429,7 +429,7 @@ fn use_live(
 }
 
 // A use of a rule that isn't live, where nothing is kept: it becomes live, or visits its root once.
-#[cycle(apply_keep_row_use_fresh_use_live_use_once_use_rule_visit_visit_choice_visit_not_visit_open_visit_pair_visit_repetition_visit_row_visit_sequence)]
+#[cycle(visiting)]
 fn use_fresh(
     given: &[u64; 4],
     table: &&[u8],
@@ -443,7 +443,7 @@ fn use_fresh(
     requires plain { keeps_in (lent table.now.now given.now) ≡ false }
     requires fresh { grows_in (lent table.now.now given.now) rule ≡ true → NotLive work.old.now (live_in spot) (key_of rule (pos_in spot)) }
     ensures says { Does (lent table.now.now given.now) line.now.now work.old.now work.new.now spot result (here uses rule) }
-    ensures lent { work.new.name ≡ work.old.name }
+    ensures lent { work.new.ghost_name ≡ work.old.ghost_name }
 {
     if bits::has_rule(given[GROWING], rule as usize) {
         return use_live(given, table, line, work, spot, rule);
@@ -452,7 +452,7 @@ fn use_fresh(
 }
 
 // A use of a rule where nothing is kept: what is held if it is live.
-#[cycle(apply_keep_row_use_fresh_use_live_use_once_use_rule_visit_visit_choice_visit_not_visit_open_visit_pair_visit_repetition_visit_row_visit_sequence)]
+#[cycle(visiting)]
 fn use_rule(
     given: &[u64; 4],
     table: &&[u8],
@@ -465,7 +465,7 @@ fn use_rule(
     requires open { IsOpen spot × (rule < rules_in (lent table.now.now given.now)) }
     requires plain { keeps_in (lent table.now.now given.now) ≡ false }
     ensures says { Does (lent table.now.now given.now) line.now.now work.old.now work.new.now spot result (here uses rule) }
-    ensures lent { work.new.name ≡ work.old.name }
+    ensures lent { work.new.ghost_name ≡ work.old.ghost_name }
 {
     let found = live_use(given, work, spot, rule);
     if found != 0 {
@@ -475,7 +475,7 @@ fn use_rule(
 }
 
 // A sequence or a choice: its two children.
-#[cycle(apply_keep_row_use_fresh_use_live_use_once_use_rule_visit_visit_choice_visit_not_visit_open_visit_pair_visit_repetition_visit_row_visit_sequence)]
+#[cycle(visiting)]
 fn visit_pair(
     given: &[u64; 4],
     table: &&[u8],
@@ -487,7 +487,7 @@ fn visit_pair(
     requires ready { StartsHere (lent table.now.now given.now) line.now.now work.old.now spot node }
     requires open { IsOpen spot × IsPair (lent table.now.now given.now) node }
     ensures says { Does (lent table.now.now given.now) line.now.now work.old.now work.new.now spot result (here applies node) }
-    ensures lent { work.new.name ≡ work.old.name }
+    ensures lent { work.new.ghost_name ≡ work.old.ghost_name }
 {
     let x = a_of(given, *table, node);
     let y = b_of(given, *table, node);
@@ -499,7 +499,7 @@ fn visit_pair(
 
 // One node's application: a decision over the kind, 0 to 6 and all above; then its answer is kept, where answers are. A rule comes here only
 // where they are.
-#[cycle(apply_keep_row_use_fresh_use_live_use_once_use_rule_visit_visit_choice_visit_not_visit_open_visit_pair_visit_repetition_visit_row_visit_sequence)]
+#[cycle(visiting)]
 fn apply(
     given: &[u64; 4],
     table: &&[u8],
@@ -512,7 +512,7 @@ fn apply(
     requires open { IsOpen spot }
     requires kept { Unkept (lent table.now.now given.now) work.old.now spot node }
     ensures says { Does (lent table.now.now given.now) line.now.now work.old.now work.new.now spot result (here opens node) }
-    ensures lent { work.new.name ≡ work.old.name }
+    ensures lent { work.new.ghost_name ≡ work.old.ghost_name }
 {
     let done = match kind_of(given, *table, node) {
         0 => answer(pos_of(spot), 0),
@@ -539,7 +539,7 @@ fn apply(
 }
 
 // An open visit where nothing is kept: it has nothing to do after what it calls, so it ends in a jump to it.
-#[cycle(apply_keep_row_use_fresh_use_live_use_once_use_rule_visit_visit_choice_visit_not_visit_open_visit_pair_visit_repetition_visit_row_visit_sequence)]
+#[cycle(visiting)]
 fn visit_open(
     given: &[u64; 4],
     table: &&[u8],
@@ -551,7 +551,7 @@ fn visit_open(
     requires ready { StartsHere (lent table.now.now given.now) line.now.now work.old.now spot node }
     requires open { IsOpen spot × (keeps_in (lent table.now.now given.now) ≡ false) }
     ensures says { Does (lent table.now.now given.now) line.now.now work.old.now work.new.now spot result (here opens node) }
-    ensures lent { work.new.name ≡ work.old.name }
+    ensures lent { work.new.ghost_name ≡ work.old.ghost_name }
 {
     match kind_of(given, *table, node) {
         1 => visit_range(given, *table, *line, work, pos_of(spot), node),
@@ -563,7 +563,7 @@ fn visit_open(
 }
 
 // A visit: the answer that is kept, or else the node is applied. It keeps no place on the stack, since it ends in a jump to what it calls; a range needs no call.
-#[cycle(apply_keep_row_use_fresh_use_live_use_once_use_rule_visit_visit_choice_visit_not_visit_open_visit_pair_visit_repetition_visit_row_visit_sequence)]
+#[cycle(visiting)]
 fn visit(
     given: &[u64; 4],
     table: &&[u8],
@@ -574,7 +574,7 @@ fn visit(
 ) -> u64
     requires ready { StartsHere (lent table.now.now given.now) line.now.now work.old.now spot node }
     ensures says { DoesVisit (lent table.now.now given.now) line.now.now work.old.now work.new.now spot result (here reading node) }
-    ensures lent { work.new.name ≡ work.old.name }
+    ensures lent { work.new.ghost_name ≡ work.old.ghost_name }
 {
     let refused = enter(given, work, spot);
     if refused != 0 {
@@ -601,7 +601,7 @@ fn first_use(given: &[u64; 4], table: &&[u8], line: &&[u8], work: &mut &mut [u32
     requires ready { StartsUse (lent table.now.now given.now) line.now.now work.old.now beginning 0 }
     requires some { 0 < rules_in (lent table.now.now given.now) }
     ensures says { Does (lent table.now.now given.now) line.now.now work.old.now work.new.now beginning result (here uses 0) }
-    ensures lent { work.new.name ≡ work.old.name }
+    ensures lent { work.new.ghost_name ≡ work.old.ghost_name }
 {
     if given[KEPT_EACH] != 0 {
         return use_once(given, table, line, work, BEGINNING, 0);
@@ -621,7 +621,7 @@ pub fn read_line<'a>(
     requires ready { StartsUse (lent table.now given.now) line.now work.old beginning 0 }
     requires some { 0 < rules_in (lent table.now given.now) }
     ensures says { Does (lent table.now given.now) line.now work.old result.now beginning answer.new (here uses 0) }
-    ensures lent { result.ghost_name ≡ work.entry.name }
+    ensures lent { result.ghost_name ≡ work.entry.ghost_name }
 {
     let mut all = work;
     *answer = first_use(given, &table, &line, &mut all);

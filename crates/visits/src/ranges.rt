@@ -36,7 +36,7 @@ fn range_end(line: &[u8], lowest: u32, highest: u32, pos: u32) -> u32
 fn reach(work: &mut &mut [u32], pos: u32)
     requires { 2048 ≤ length work.old.now }
     ensures reached { work.new.now ≡ reached_in work.old.now pos }
-    ensures lent { work.new.name ≡ work.old.name }
+    ensures lent { work.new.ghost_name ≡ work.old.ghost_name }
 {
     if work[FURTHEST] < pos {
         work[FURTHEST] = pos;
@@ -57,7 +57,7 @@ pub(crate) fn visit_range(
     requires words { 2048 ≤ length work.old.now }
     ensures range { Ranges (lent table.now given.now) line.now node pos result }
     ensures reached { work.new.now ≡ reached_in work.old.now pos }
-    ensures lent { work.new.name ≡ work.old.name }
+    ensures lent { work.new.ghost_name ≡ work.old.ghost_name }
 {
     let lowest = a_of(given, table, node);
     let highest = b_of(given, table, node);

@@ -15,7 +15,7 @@ use crate::{ALLOWANCE, CELLS, EFFORT, MADE, TURNS, answer, end_of, list_of};
 pub(crate) fn enter_in_place(given: &[u64; 4], work: &mut &mut [u32]) -> u32
     requires { (2048 ≤ length work.old.now) × (allowance_in (lent [] given.now) ≤ most_allowance) }
     ensures says { EnteredInPlace (lent [] given.now) work.old.now work.new.now result }
-    ensures lent { work.new.name ≡ work.old.name }
+    ensures lent { work.new.ghost_name ≡ work.old.ghost_name }
 {
     let allowance = given[ALLOWANCE] as u32;
     let made = work[MADE];
@@ -79,7 +79,7 @@ pub(crate) fn go_back(
 ) -> u64
     requires { Returns (lent table.now.now given.now) line.now.now work.old.now spot node before last }
     ensures says { Returned (lent table.now.now given.now) line.now.now work.old.now work.new.now spot node before last result }
-    ensures lent { work.new.name ≡ work.old.name }
+    ensures lent { work.new.ghost_name ≡ work.old.ghost_name }
 {
     let mut turns = work[TURNS];
     let mut at = pos_of(spot);

@@ -1,4 +1,6 @@
 -- Only ranges, uses of rules, sequences and choices are not empty by themselves.
+use mathlib.Core.Path.{◌≡◌}
+use native.Mathlib.Omega.{arith}
 use Rattle.empties.specs.Pass.{empty_of}
 use Rattle.empties.proofs.Marking.{other_kinds, rule_not_alone}
 use Rattle.empties.proofs.by_itself.Goals as goal
@@ -19,4 +21,5 @@ unfolding empty_of
 returns-in-4 c = λ a b. rw c.in-4.is
 
 pub returns-in_default : goal.returns-in_default
-returns-in_default c = λ a b. let n = c.in_default.in_default-own.rest in other_kinds _ _ _ a b n.0.0.0.1 n.0.0.1 n.0.1 n.1
+returns-in_default c =
+    λ a b. other_kinds _ _ c.args.kind a b (λ (z : c.args.kind ≡ 1). omega arith) (λ (z : c.args.kind ≡ 2). omega arith) (λ (z : c.args.kind ≡ 3). omega arith) (λ (z : c.args.kind ≡ 4). omega arith)

@@ -1,7 +1,5 @@
 -- The rules whose root is marked are gathered one by one.
 use mathlib.Core.Path.{◌≡◌, sym, ap, ◌∙◌}
-use mathlib.Core.Logic.{⊎_elim}
-use Prim.Native.Nat.{◌-◌}
 use native.Mathlib.Omega.{arith}
 use lib.ListN.{length}
 use Rattle.bits.specs.Marks.{marked}
@@ -9,6 +7,7 @@ use Rattle.layout.specs.Table.{grammar_of}
 use Rattle.layout.proofs.Laying.{well_laid, rule_count, root_is}
 use Rattle.empties.proofs.Gathering.{gathered_none, gathered_in, gathered_out}
 use Rattle.empties.proofs.gather.Goals as goal
+use Rattle.empties.proofs.gather.Goals.{then-marked, else-marked}
 
 pub loop-a-init : goal.loop-a-init
 loop-a-init c = (omega arith, gathered_none _ _, omega arith)
@@ -30,10 +29,11 @@ loop-a-preserved c =
     let l = c.loop-a in
     let inv = l.invariant in
     let found = c.marked.ensures ∙ ap (marked c.args.marks.now) (c.root.ensures.0 ∙ sym (root_is c.args.table.now l.a (omega arith))) in
-    ⊎_elim
-    (λ w. (omega arith, rw w.2 (gathered_in _ _ _ _ inv.1 _ (sym found ∙ w.0.taken) w.1.ensures.bits), omega (arith, w.1.ensures.grows)))
-    (λ w. (omega arith, rw w.1 (gathered_out _ _ _ _ inv.1 (sym found ∙ w.0.left)), omega arith))
-    c.if-marked.branch
+    elim c.if-marked.branch [
+    | then-marked w ↦
+      (omega arith, rw w.more-is (gathered_in _ _ _ _ inv.1 _ (sym found ∙ w.if-marked.true) w.add_rule-more.ensures.bits), omega (arith, w.add_rule-more.ensures.grows))
+    | else-marked w ↦ (omega arith, rw w.more-is (gathered_out _ _ _ _ inv.1 (sym found ∙ w.if-marked.false)), omega arith)
+    ]
 
 pub returns : goal.returns
 returns c =

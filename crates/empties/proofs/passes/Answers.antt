@@ -1,6 +1,6 @@
 -- Passes as long as each adds a rule: the mask grows with every turn, and it fits 64 bits.
 use mathlib.Core.List.{List}
-use Prim.Native.Nat.{ℕ, ◌-◌}
+use Prim.Native.Nat.{ℕ}
 use native.Mathlib.Omega.{arith}
 use lib.ListN.{length}
 use Rattle.layout.specs.Table.{nodes_of, grammar_of}
@@ -26,7 +26,7 @@ pub gather-more-requires : goal.gather-more-requires
 gather-more-requires c = c.requires.0
 
 pub loop-known-smaller : goal.loop-known-smaller
-loop-known-smaller c = omega (arith, c.if-more-known.false, c.gather-more.ensures.1, c.gather-more.type-inv)
+loop-known-smaller c = omega (arith, c.if-more-known.false, c.gather-more.ensures.1, c.gather-more.type_inv)
 
 pub loop-known-preserved : goal.loop-known-preserved
 loop-known-preserved c =
@@ -34,7 +34,7 @@ loop-known-preserved c =
     let l = c.loop-known in
     let p = c.pass in
     let m = c.gather-more in
-    again (grammar_of t) (closed t c.requires.0) _ _ _ _ _ l.invariant (by-nodes t p.ensures) m.ensures.0 m.type-inv
+    again (grammar_of t) (closed t c.requires.0) _ _ _ _ _ l.invariant (by-nodes t p.ensures) m.ensures.0 m.type_inv
 
 pub returns : goal.returns
 returns c =

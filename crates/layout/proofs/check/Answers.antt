@@ -4,10 +4,9 @@ use mathlib.Core.List.{List}
 use mathlib.Core.Bool.{true}
 use Prim.Native.Nat.{ℕ, ◌≤◌}
 use native.Mathlib.Omega.{arith}
-use borrow.Author.Tests.{not-true, not-false}
 use lib.ListN.{length}
 use Rattle.layout.specs.Table.{length_of, nodes_of, most_nodes, rules_of, most_rules, formula}
-use Rattle.layout.specs.Layout.{SHORT, VERSION, COUNT, LENGTH, ◌or_else◌, first_fault, counts_fit, all_equal, root_fault, node_fault, layout_of}
+use Rattle.layout.specs.Layout.{SHORT, VERSION, COUNT, LENGTH, counts_fit, all_equal}
 use Rattle.layout.proofs.Laws.{counts_said, lengths_said, says_short, says_version, says_count, says_length, says_rest}
 use Rattle.layout.proofs.Stops.{survey_refused, roots_refuse, nodes_decide, survey_read}
 use Rattle.layout.proofs.Tests.{counts_iff, all_equal_iff}

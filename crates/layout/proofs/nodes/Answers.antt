@@ -1,6 +1,5 @@
 -- `nodes` meets its contract. The invariant: the search for the first fault, begun at one node, goes on at node i.
 use mathlib.Core.Path.{refl, sym, ◌∙◌}
-use Prim.Native.Nat.{◌-◌}
 use native.Mathlib.Omega.{arith}
 use Rattle.layout.proofs.Laws.{first_pass, first_stop, first_end}
 use Rattle.layout.proofs.nodes.Goals as goal

@@ -1,6 +1,5 @@
 -- `roots` meets its contract. The invariant: the search for the first fault, begun at rule 0, goes on at rule a.
 use mathlib.Core.Path.{sym, ◌∙◌}
-use Prim.Native.Nat.{◌-◌}
 use native.Mathlib.Omega.{arith}
 use Rattle.layout.specs.Table.{root_of}
 use Rattle.layout.specs.Layout.{ROOT}

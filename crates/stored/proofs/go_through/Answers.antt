@@ -2,7 +2,6 @@
 use mathlib.Core.Path.{refl}
 use native.Mathlib.Omega.{arith}
 use lib.ListN.{length-set}
-use borrow.Author.Rules.{rules}
 use Rattle.stored.specs.Scratch.{spans_of}
 use Rattle.stored.proofs.Goes.{one_more, none_left, read_rule, read_order, read_end, read_fault, read_more}
 use Rattle.stored.proofs.go_through.Goals as goal

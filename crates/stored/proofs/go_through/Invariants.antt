@@ -3,7 +3,6 @@ use mathlib.Core.Path.{◌≡◌}
 use mathlib.Core.List.{[]}
 use Prim.Native.Nat.{◌≤◌, ◌+◌, ◌*◌}
 use lib.ListN.{length}
-use borrow.Author.Rules.{rules}
 use Rattle.stored.specs.Stored.{record_size}
 use Rattle.stored.specs.WellFormed.{records_at}
 use Rattle.stored.specs.Scratch.{spans_of}

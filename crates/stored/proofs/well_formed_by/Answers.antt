@@ -1,7 +1,6 @@
 -- `well_formed_by` tests the head, and then the records.
 use mathlib.Core.Path.{◌≡◌, sym, ◌∙◌}
 use native.Mathlib.Omega.{arith}
-use borrow.Author.Rules.{rules}
 use Prim.Native.Nat.{◌+◌, ◌*◌}
 use Rattle.stored.proofs.Judged.{judged_short, judged_version, judged_length, judged_formula, judged_none, judged_rest, enough_scratch}
 use Rattle.stored.proofs.well_formed_by.Goals as goal
