@@ -152,6 +152,9 @@ left : (t : Tree) (fs : List Frame) (w : Written) → Bracketed fs
 unfolding held_words held_count held_nodes
 left t [] w b = refl
 left t (bracket ∷ fs) w b = refl
+left t (row_of v ∷ fs) w b = elim b [ ]
+left t (item_of v ∷ fs) w b = elim b [ ]
+left t (bang ∷ fs) w b = elim b [ ]
 
 closed : (p : Grown) → drafts.close (full_of p) ≡ map full_of (trees.close p)
 closed p = rw (joined_is 0 p) (left p.tree (gathered 1 p).frames (gathered 1 p).current (bracketed p.tree.frames p.current))

@@ -191,7 +191,7 @@ module _ (ls : List Line) where
     forth (maybe1 h) (is_maybe a e) = r.ord1 (forth h a)
     forth (maybe2 h) (is_maybe a e) = r.ord2 (forth h a) (matches_nothing e)
 
-    back : {line : List ℕ} {w : Written} {q : Node} {x : ℕ} {a : Answer} → Plain gr line q x a → Is w q → Means ls line w x a
+    back : {line : List ℕ} {q : Node} {x : ℕ} {a : Answer} → Plain gr line q x a → {w : Written} → Is w q → Means ls line w x a
     back (r.char1 t) is_range_lem = char1 t
     back (r.char2 t) is_range_lem = char2 t
     back (r.var h) (is_name o) = var o (back h (stands o))
@@ -210,6 +210,7 @@ module _ (ls : List Line) where
     back (r.rep1 h) (is_star a) = rep1 (back h a)
     back (r.rep2 h n k) (is_star a) = rep2 (back h a) n (back k (is_star a))
     back (r.rep3 h) (is_star a) = rep3 (back h a)
+    back {line = line} Plain.empty1 {w = w} x9 = elim x9 [ ]
 
     -- What a line of the sheet means is what the root of its rule answers.
     pub means : (line : List ℕ) (k : ℕ) (l : Line) → LineAt ls k l → (x : ℕ) (a : Answer)
