@@ -3,11 +3,11 @@ use mathlib.Core.Path.{◌≡◌, refl, sym, ap, ◌∙◌}
 use mathlib.Core.Bool.{Bool, true, false}
 use mathlib.Core.List.{List, [], ◌∷◌, ◌++◌}
 use Prim.Native.Nat.{ℕ, ◌+◌, ◌≤◌, ◌<◌}
-use native.Mathlib.Nat.{le_refl, le_trans}
+use native.Mathlib.Nat.{le_antisymm, le_refl, le_trans}
 use native.Mathlib.Omega.{arith}
 use native.Mathlib.Numerals.{add-one}
 use lib.ListN.{length, take, get_or, set}
-use lib.Seq.{take-suc, take-set-le, take-set-lt, get_or-set_other}
+use lib.Seq.{take-suc, take-length, take-set-le, take-set-lt, get_or-set_other}
 use borrow.Author.Tests.{lt-ltb, le-ltb, ltb-false}
 use Rattle.page.specs.Page.{Page, page, size, failure, has_failed, with_byte, with_bytes, marked, Puts}
 
@@ -32,6 +32,13 @@ puts_none a u = record { stands = refl; remembers = le_refl _ }
 pub puts_one : {a b c : List ℕ} {u v w : ℕ} (bytes : List ℕ) (i : ℕ) → i < length bytes
     → Puts a u (take i bytes) b v → Puts b v (get_or bytes i 0 ∷ []) c w → Puts a u (take (i + 1) bytes) c w
 puts_one bytes i h k l = rw (add-one i, take-suc bytes i 0 h) (puts_both k l)
+
+pub puts_all : {a b : List ℕ} {u v : ℕ} (bytes : List ℕ) (i : ℕ) → i ≤ length bytes → length bytes ≤ i
+    → Puts a u (take i bytes) b v → Puts a u bytes b v
+puts_all {a} {b} {u} {v} bytes i h k l =
+    let e : i ≡ length bytes = le_antisymm h k in
+    let f : take i bytes ≡ bytes = rw (e, take-length) in
+    rw f at l
 
 -- a byte that finds room
 pub put_inside : (a : List ℕ) (u byte : ℕ) → u < size → Puts a u (byte ∷ []) (set a u byte) (u + 1)
