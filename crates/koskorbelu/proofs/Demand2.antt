@@ -2,13 +2,12 @@
 -- becomes live. Beyond it: there always is such an answer; on a sheet that is not free it comes back exactly where the allowance suffices and no more than 512 visits are open at once; and
 -- it comes back wherever it did when every rule became live, in no more visits.
 use mathlib.Core.Path.{◌≡◌, refl, sym, ap, subst, ◌∙◌}
-use mathlib.Core.Bool.{true}
 use mathlib.Core.Logic.{◌↔◌, ◌≢◌, ◌⊎◌, inl, inr}
 use Prim.Native.Nat.{ℕ, suc, ◌+◌, ◌<◌, ◌≤◌}
 use native.Mathlib.Omega.{arith}
 use lib.ListN.{length}
 use Rattle.meaning.specs.Grammar.{rule, Closed, Answer}
-use Rattle.meaning.specs.Rules.{Plain, furthest_of, Amount, every_rule, Reads}
+use Rattle.meaning.specs.Rules.{Plain, furthest_of, Amount, every_rule}
 use Rattle.meaning.specs.Report.{Free}
 use Rattle.meaning.specs.Decide.{left_recursive}
 use Rattle.meaning.specs.Reading.{State, made, Run, keeps, grows, read_by}

@@ -1,5 +1,5 @@
 -- What the contracts of the code's own functions cite: the numbers that the code keeps while it reads a text, newest first. Nothing here has to be believed.
-use Rattle.std.specs.Prelude.{Bool, true, false, cond, List, [], ◌∷◌, ℕ, zero, suc, ◌+◌, ◌*◌, ◌-◌, ◌/◌, ◌%◌, get_or, leb}
+use Rattle.std.specs.Prelude.{cond, List, [], ◌∷◌, ℕ, zero, suc, ◌+◌, ◌*◌, ◌-◌, ◌/◌, ◌%◌, get_or, leb}
 use Rattle.std.proofs.Math.Option.{Option, none, some}
 use Rattle.written.specs.Machine.{Builder}
 

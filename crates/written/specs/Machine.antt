@@ -1,6 +1,6 @@
 -- What the contracts of the code's own functions cite: a machine that reads a text byte by byte. Nothing here has to be believed.
 -- What it builds is a parameter: what is written (proofs/Trees), or the numbers that the code keeps (specs/Draft).
-use Rattle.std.specs.Prelude.{Bool, true, false, ◌&&◌, cond, List, [], ◌∷◌, ℕ, zero, suc, ltb, eqb}
+use Rattle.std.specs.Prelude.{◌&&◌, cond, List, [], ◌∷◌, ℕ, zero, suc, ltb, eqb}
 use Rattle.std.proofs.Math.Option.{Option, none, some}
 use Rattle.written.specs.Shown.{is_letter, is_part, is_quotable, longest_name}
 

@@ -1,5 +1,5 @@
 -- 02, W-201: which table a written sheet is.
-use Rattle.std.specs.Prelude.{Bool, true, false, ◌&&◌, cond, List, [], ◌∷◌, ◌++◌, ℕ, zero, suc, ◌+◌, ◌*◌, ◌/◌, ◌%◌, length, eqb}
+use Rattle.std.specs.Prelude.{Bool, true, false, ◌&&◌, cond, List, [], ◌∷◌, ◌++◌, ℕ, suc, ◌/◌, ◌%◌, length, eqb}
 use Rattle.meaning.specs.Grammar as g
 use Rattle.meaning.specs.Grammar.{Node}
 use Rattle.layout.specs.Table.{node_at}

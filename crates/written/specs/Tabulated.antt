@@ -1,9 +1,9 @@
 -- 02, W-201: when each code is given, and at which place. A row's condition holds, and no earlier row's does.
-use Rattle.std.specs.Prelude.{◌≡◌, List, [], ◌∷◌, ◌++◌, ◌≢◌, ℕ, ◌+◌, ◌≤◌, ◌<◌, length, take, drop, get_or}
+use Rattle.std.specs.Prelude.{◌≡◌, List, ◌∷◌, ◌++◌, ◌≢◌, ℕ, ◌+◌, ◌≤◌, ◌<◌, length, take, drop}
 use Rattle.layout.specs.Table.{most_nodes, most_rules}
 use Rattle.layout.specs.Layout.{READ, verdict}
 use Rattle.sheet.specs.Check.{LOOP, check_of}
-use Rattle.written.specs.Written.{Name, Written, name, range, star, plus, maybe, deny, then, or, Line}
+use Rattle.written.specs.Written.{Name, Written, name, star, plus, maybe, deny, then, or, Line}
 use Rattle.written.specs.Shown.{ShowsSheet}
 use Rattle.written.specs.Numbered.{nodes_of, table_of}
 
