@@ -1,16 +1,16 @@
 -- Bytes of the input, one after the other.
 use mathlib.Core.Path.{◌≡◌, refl, sym, ap, ◌∙◌}
-use mathlib.Core.Bool.{Bool, true, false, cond}
+use mathlib.Core.Bool.{Bool, true, false, cond, false≢true}
 use mathlib.Core.List.{List, [], ◌∷◌, ◌++◌, append_assoc, append-nil}
 use Prim.Native.Nat.{ℕ, zero, suc, ◌+◌, ◌≤◌, ◌<◌}
-use native.Mathlib.Nat.{le_antisymm}
+use native.Mathlib.Nat.{le_antisymm, le_refl}
 use native.Mathlib.Omega.{arith}
 use native.Mathlib.Numerals.{add-one}
 use lib.Dec.{eqb, leb}
-use lib.ListN.{length, take, get_or, replicate, length-take}
-use lib.Seq.{take-suc, take-length, take_all, length-take-le}
+use lib.ListN.{length, take, get_or, set, replicate, length-set, length-append, length-take}
+use lib.Seq.{take-suc, take-length, take-suc-set, take_all, take-append-le, length-take-le}
 use borrow.Author.Tests.{lt-ltb, leb-true, leb-false, eq-eqb, ne_eqb}
-use Rattle.page.specs.Page.{Puts}
+use Rattle.page.specs.Page.{Puts, has_failed}
 use Rattle.page.proofs.Laws.{puts_both, puts_none}
 use Rattle.reader.specs.Answer.{Outcome, longest_line, reading_of}
 use Rattle.answers.specs.Printed.{working_numbers, room_bytes, answer_text, outcome_of, line_text}
@@ -126,6 +126,22 @@ line_ends table line count byte page used whole after used_after e f p =
     let q : Puts page used (line_text table (take count line)) after used_after = rw f at p in
     record { within = omega arith; begun = simp (eq-eqb byte LF e); printed = simp (eq-eqb byte LF e, append-nil) q }
 
+module _ (line : List ℕ) (count byte : ℕ) where
+  pub one_longer_lem : count < length line → Lengthened line count byte (set line count byte) (count + 1)
+  one_longer_lem h =
+      let long : length (take count line ++ (byte ∷ [])) ≡ suc count = simp (length-append, length-take-le count line (omega arith)) (omega arith) in
+      record {
+        place = simp length-set;
+        within = omega arith;
+        begun = rw (add-one count, take-suc-set line count byte h, take_all (length line) (take count line ++ (byte ∷ [])) (omega arith));
+      }
+
+  pub no_longer : count ≤ length line → length line ≤ count → Lengthened line count byte line count
+  no_longer most h =
+      let whole : length line ≤ length line = le_refl _ in
+      let all : take count line ≡ line = take_all count line h in
+      record { place = refl; within = most; begun = rw (all, take-append-le, take-length) }
+
 -- any byte but LF belongs to it
 pub line_grows : (table line : List ℕ) (count byte : ℕ) (page : List ℕ) (used : ℕ) (after : List ℕ) (count_after : ℕ) → (byte ≡ LF → ⊥) → length line ≡ kept
     → Lengthened line count byte after count_after → Taken table line count (byte ∷ []) page used after count_after page used
@@ -136,8 +152,13 @@ line_grows table line count byte page used after count_after ne full l = record 
   printed = simp (ne_eqb byte LF ne) (puts_none page used);
 }
 
-pub finished : {table l m a b : List ℕ} {i j u v : ℕ} {xs : List ℕ} → Taken table l i xs a u m j b v → TakenUnlessFailed table l i xs a u m j b v
-finished t = record { keeps = t.within; taken = λ _. t }
+module _ {table l m a b : List ℕ} {i j u v : ℕ} {xs : List ℕ} where
+  -- a failure ends the taking
+  pub stopped : (flag : Bool) → flag ≡ has_failed b → flag ≡ true → j ≤ kept → TakenUnlessFailed table l i xs a u m j b v
+  stopped flag seen f h = record { keeps = h; taken = λ e. absurd (false≢true (sym e ∙ sym seen ∙ f)) }
+
+  pub finished : Taken table l i xs a u m j b v → TakenUnlessFailed table l i xs a u m j b v
+  finished t = record { keeps = t.within; taken = λ _. t }
 
 module _ (table begun whole page : List ℕ) (front : whole ≡ begun) where
   pub no_last : length whole ≡ 0 → Puts page 0 (last_text table begun) page 0
