@@ -6,7 +6,7 @@ use mathlib.Core.List.{List}
 use Prim.Native.Nat.{ℕ, zero, suc, ◌-◌, ◌≤◌, ◌<◌}
 use native.Mathlib.Numerals.{add-one}
 use native.Mathlib.Omega.{arith}
-use borrow.Author.Tests.{eqb-true, eqb-false, eq-eqb, ne_eqb}
+use borrow.Author.Tests.{lt-leb, eqb-true, eqb-false, eq-eqb, ne_eqb}
 use lib.Dec.{leb, ltb, eqb}
 use Rattle.meaning.proofs.Choose.{by_test}
 use Rattle.layout.specs.declared.Verdict.{Verdict}
@@ -41,6 +41,11 @@ stop_repetition r i a b = by (ltb a i && eqb b 0)
     by : (f : Bool) → cond f REPETITION FIELD ≡ cond f REPETITION (cond f READ FIELD)
     by true = refl
     by false = refl
+
+-- At a kind above 01's it stops with KIND, whatever the fields.
+pub stop_above : (r i kind a b : ℕ) → 6 < kind → KIND ≡ stop_of r i kind a b
+unfolding stop_of fault_of
+stop_above r i kind a b h = rw (ne_eqb kind 6 (λ (z : kind ≡ 6). omega arith), lt-leb kind 6 h)
 
 module _ (r i kind a b : ℕ) where
   -- What is wrong with a node, by what a search stops at.
@@ -134,9 +139,6 @@ module _ (t : List ℕ) where
 
   module _ (n r : ℕ) (en : n ≡ nodes_of t) (er : r ≡ rules_of t)
       (says : layout_of t ≡ first_fault (root_fault t) 0 (rules_of t) or_else first_fault (node_fault t) 0 (nodes_of t)) (v : Verdict) (ev : v ≡ first_fault (root_fault t) 0 r) where
-    pub roots_refuse : v.code ≢ READ → layout_of t ≡ verdict v.code v.place
-    roots_refuse z = says ∙ rw (← er, ← ev, ne_eqb v.code READ z)
-
     module _ (passed : v.code ≡ READ) (p : ℕ) (s : FirstOf (stops t) 0 n p) (w : Verdict) (ew : w ≡ first_fault (node_fault t) p (n - p)) where
       pub nodes_decide : layout_of t ≡ verdict w.code w.place
       nodes_decide = says ∙ rw (← er, ← ev, eq-eqb v.code READ passed, ← en) (from_there n p s ∙ sym ew)

@@ -221,6 +221,7 @@ fn refused(code: usize, place: usize) -> Survey
 }
 
 // READ where the table is laid out as 01 says; else what 01's order of checks refuses first, and its place.
+#[tactic(auto, using(crate::proofs::Laws::says_rest), unfolding(crate::specs::Table::nodes_of, crate::specs::Table::rules_of, crate::specs::Table::length_of, crate::specs::Table::formula, crate::specs::Layout::Laid))]
 pub fn check(table: &[u8]) -> Survey
     ensures { Surveyed table.now result }
 {

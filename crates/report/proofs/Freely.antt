@@ -1,5 +1,5 @@
 -- A grammar is free exactly if no left-recursive rule is among the reachable ones; and when the masks alone tell.
-use mathlib.Core.Path.{◌≡◌, sym, ◌∙◌}
+use mathlib.Core.Path.{◌≡◌, refl, sym, ◌∙◌}
 use mathlib.Core.Bool.{Bool, true, false, false≢true}
 use mathlib.Core.List.{List}
 use mathlib.Core.Logic.{◌≢◌, ◌↔◌}
@@ -60,3 +60,10 @@ module _ (g : Grammar) (good : Closed g) (left : ℕ) (l : LeftRules g left) whe
 -- Of a table that is laid out well the computed test says so.
 pub free_said : (t : List ℕ) → Laid t → {answer : Bool} → answer ≡ is_free (grammar_of t) → (answer ≡ true) ↔ Free (grammar_of t)
 free_said t a e = rw e (free_iff (grammar_of t) (closed t a))
+
+-- Of a table without a left-recursive rule true is the answer, and the working numbers stay.
+pub free_zero : (t : List ℕ) → LeftRules (grammar_of t) 0 → Laid t → true ≡ is_free (grammar_of t)
+free_zero t l a = free_none (grammar_of t) (closed t a) 0 l refl
+
+pub told_zero : (t : List ℕ) → LeftRules (grammar_of t) 0 → Laid t → Told (grammar_of t)
+told_zero t l a = told_none (grammar_of t) (closed t a) 0 l refl

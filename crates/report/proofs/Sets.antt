@@ -8,6 +8,7 @@ use Prim.Native.Nat.{ℕ, zero, suc, ◌+◌, ◌≤◌, ◌<◌}
 use native.Mathlib.Nat.{eq-or-lt_of_le}
 use native.Mathlib.Numerals.{add-one}
 use native.Mathlib.Omega.{arith}
+use Rattle.std.proofs.lemmas.Grind.{common_steps}
 use borrow.Author.Count.{below_more}
 use lib.Dec.{eqb}
 use lib.Bits.{or_zero_l, or_zero_r}
@@ -34,6 +35,12 @@ pub turned : (first old new : List ℕ) (r k : ℕ) → k < r → ((a b : ℕ) �
 unfolding led
 turned first old new r k k-there so_far wider a b h =
     ap (λ s. has s b) (wider a h) ∙ has_widened (get_or old k 0) k (get_or old a 0) b ∙ rw (so_far a b h, so_far a k h, so_far k b k-there, add-one k)
+
+-- Set after set is widened: those before one are, the others are as they were.
+pub widened_next : (row k a v : ℕ) (before now : List ℕ) → a < length now → ((j : ℕ) → j < a → get_or now j 0 ≡ widened row k (get_or before j 0))
+    → ((j : ℕ) → a ≤ j → get_or now j 0 ≡ get_or before j 0) → v ≡ widened row k (get_or now a 0)
+    → ((j : ℕ) → j < a + 1 → get_or (set now a v) j 0 ≡ widened row k (get_or before j 0)) × ((j : ℕ) → a + 1 ≤ j → get_or (set now a v) j 0 ≡ get_or before j 0)
+widened_next row k a v before now h done rest e = grind (arith, common_steps)
 
 -- ---- A set spread by the rows of the rules that it has.
 widened_keeps : (row k set b : ℕ) → has set b ≡ true → has (widened row k set) b ≡ true

@@ -277,6 +277,7 @@ fn reachable_rules(table: &[u8], scratch: &[u32], some: u64) -> u64
 }
 
 // Whether no left-recursive rule is reachable. Where there is none, or one stands at the start of rule 0, the working numbers stay.
+#[tactic(auto, using(crate::proofs::Freely::free_zero, crate::proofs::Freely::told_zero))]
 fn none_reached(table: &[u8], scratch: &mut [u32], left_recursive: u64, at_start: u64) -> bool
     requires { Laid table.now × (2 * most_nodes ≤ length scratch.old) × LeftRules (grammar_of table.now) left_recursive × StartRules (grammar_of table.now) at_start }
     ensures { Judged table.now result scratch.old scratch.new }

@@ -23,6 +23,7 @@ pub const LONGEST_LINE: usize = 4000;
 const LONGEST_IN_ONE_BYTE: usize = 255;
 
 // The version that a line of so many bytes gives: the bytes of a position.
+#[tactic(auto, unfolding(crate::specs::Version::version_of))]
 pub fn version_of(line_length: usize) -> usize
     ensures is { result ≡ version_of line_length }
     ensures widths { (0 < result) × (result ≤ 2) }

@@ -1,6 +1,8 @@
 use native.Mathlib.Omega.{arith}
-use mathlib.Core.Path.{sym, ◌∙◌}
+use mathlib.Core.Path.{◌≡◌}
+use Rattle.stored.specs.Stored.{records_of}
 use Rattle.stored.proofs.Bytes.{small_length}
+use Rattle.cells.specs.Cells.{saturated, trees_at}
 use Rattle.cells.proofs.Writing.{first_below, first_arena, second_below, second_arena, records_both, bytes_both, bytes_one, along_all, here, along_none, along_tree, between_is, along_first, along_second, one_size, some_list, leaf_wrote}
 use Rattle.cells.proofs.+writing.Goals as goal
 
@@ -21,8 +23,8 @@ write_list-offset_bounds-work-cell t c = omega (arith, c.requires.arena.long)
 
 pub write_list-bounds-work-cell : goal.write_list-bounds-work-cell
 write_list-bounds-work-cell t c =
-    let one = some_list _ _ c.requires.arena (sym c.if-records_of-eq1.true ∙ c.records_of.ensures) in
-    omega (arith, c.requires.arena.long, one)
+    let one : 1 ≡ saturated (records_of (trees_at c.args.work.now c.args.list)) = omega arith in
+    omega (arith, c.requires.arena.long, some_list _ _ c.requires.arena one)
 
 pub write_list-overflow_mul-width : goal.write_list-overflow_mul-width
 write_list-overflow_mul-width t c = omega (arith, c.requires.few.1.1)
@@ -32,17 +34,17 @@ write_list-overflow_add-width t c = omega (arith, c.requires.few.1.1)
 
 pub write_list-overflow_sub-end : goal.write_list-overflow_sub-end
 write_list-overflow_sub-end t c =
-    let one = sym c.if-records_of-eq1.true ∙ c.records_of.ensures in
+    let one : 1 ≡ saturated (records_of (trees_at c.args.work.now c.args.list)) = omega arith in
     omega (arith, c.requires.fits.0, one_size _ _ c.requires.arena one c.args.width)
 
 pub write_list-put_record-requires : goal.write_list-put_record-requires
 write_list-put_record-requires t c =
-    let one = sym c.if-records_of-eq1.true ∙ c.records_of.ensures in
+    let one : 1 ≡ saturated (records_of (trees_at c.args.work.now c.args.list)) = omega arith in
     (omega (arith, c.requires.fits, one_size _ _ c.requires.arena one c.args.width), c.requires.few.1)
 
 pub write_list-returns-then-second-ge-MARK : goal.write_list-returns-then-second-ge-MARK
 write_list-returns-then-second-ge-MARK t c =
-    let one = sym c.if-records_of-eq1.true ∙ c.records_of.ensures in
+    let one : 1 ≡ saturated (records_of (trees_at c.args.work.now c.args.list)) = omega arith in
     leaf_wrote _ _ c.requires.arena one c.if-second-ge-MARK.true _ _ _ _ c.put_record.ensures.1
 
 pub write_list-write_trees-requires : goal.write_list-write_trees-requires

@@ -1,4 +1,5 @@
 -- Passes as long as each adds a rule: the mask grows with every turn, and it fits 64 bits.
+use mathlib.Core.Path.{◌≡◌}
 use mathlib.Core.List.{List}
 use Prim.Native.Nat.{ℕ}
 use native.Mathlib.Omega.{arith}
@@ -35,7 +36,8 @@ returns c =
     let t = c.args.table.now in
     let l = c.loop-known in
     let p = by-nodes t c.pass.ensures in
-    let more = c.gather-more.ensures.0 in (
-      all_rules (grammar_of t) (closed t c.requires.0) _ _ _ _ _ l.invariant p more c.if-more-known.true,
-      all_nodes_lem (grammar_of t) (closed t c.requires.0) _ _ _ _ _ l.invariant p more c.if-more-known.true,
+    let more = c.gather-more.ensures.0 in
+    let none_added : c.gather-more.result ≡ l.known = omega arith in (
+      all_rules (grammar_of t) (closed t c.requires.0) _ _ _ _ _ l.invariant p more none_added,
+      all_nodes_lem (grammar_of t) (closed t c.requires.0) _ _ _ _ _ l.invariant p more none_added,
     )

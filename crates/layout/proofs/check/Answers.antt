@@ -6,9 +6,9 @@ use Prim.Native.Nat.{ℕ, ◌≤◌}
 use native.Mathlib.Omega.{arith}
 use lib.ListN.{length}
 use Rattle.layout.specs.Table.{length_of, nodes_of, most_nodes, rules_of, most_rules, formula}
-use Rattle.layout.specs.Layout.{SHORT, VERSION, COUNT, LENGTH, counts_fit, all_equal}
+use Rattle.layout.specs.Layout.{READ, SHORT, VERSION, COUNT, LENGTH, counts_fit, all_equal}
 use Rattle.layout.proofs.Laws.{counts_said, lengths_said, says_short, says_version, says_count, says_length, says_rest}
-use Rattle.layout.proofs.Stops.{survey_refused, roots_refuse, nodes_decide, survey_read}
+use Rattle.layout.proofs.Stops.{survey_refused, nodes_decide, survey_read}
 use Rattle.layout.proofs.Tests.{counts_iff, all_equal_iff}
 use Rattle.layout.proofs.check.Goals as goal
 
@@ -49,15 +49,6 @@ roots-at_roots-requires c =
     let fit = fitting c.args.table.now counts lengths in
     omega (arith, fit.0, fit.1, fit.2, c.pair-r.ensures.0, c.pair-n.ensures.0)
 
-pub returns-then-at_roots-ne-READ : goal.returns-then-at_roots-ne-READ
-unfolding nodes_of rules_of length_of
-returns-then-at_roots-ne-READ c =
-    let counts : counts_fit (nodes_of c.args.table.now) (rules_of c.args.table.now) ≡ true = sym (counts_said c.args.table.now _ _ c.pair-n.ensures.0 c.pair-r.ensures.0 _ _ _ c.in_range.ensures c.in_range-2.ensures c.both.ensures) ∙ c.if-not-both.false in
-    let lengths : all_equal (length c.args.table.now) (length_of c.args.table.now) (formula c.args.table.now) ≡ true = sym (lengths_said c.args.table.now _ _ c.pair-n.ensures.0 c.pair-r.ensures.0 _ _ c.pair.ensures.0 c.all_equal.ensures) ∙ c.if-not-all_equal.false in
-    let f = says_rest c.args.table.now c.if-table-lt7.false c.if-table-ne1.false counts lengths in
-    survey_refused _ _ _ _ (roots_refuse _ _ _ c.pair-n.ensures.0 c.pair-r.ensures.0 f _ c.roots-at_roots.ensures c.if-at_roots-ne-READ.true)
-    c.if-at_roots-ne-READ.true c.refused-then-at_roots-ne-READ.ensures
-
 pub first_stop-from-requires : goal.first_stop-from-requires
 unfolding nodes_of rules_of length_of formula
 first_stop-from-requires c =
@@ -80,8 +71,9 @@ returns-then-at_nodes-ne-READ c =
     let counts : counts_fit (nodes_of c.args.table.now) (rules_of c.args.table.now) ≡ true = sym (counts_said c.args.table.now _ _ c.pair-n.ensures.0 c.pair-r.ensures.0 _ _ _ c.in_range.ensures c.in_range-2.ensures c.both.ensures) ∙ c.if-not-both.false in
     let lengths : all_equal (length c.args.table.now) (length_of c.args.table.now) (formula c.args.table.now) ≡ true = sym (lengths_said c.args.table.now _ _ c.pair-n.ensures.0 c.pair-r.ensures.0 _ _ c.pair.ensures.0 c.all_equal.ensures) ∙ c.if-not-all_equal.false in
     let f = says_rest c.args.table.now c.if-table-lt7.false c.if-table-ne1.false counts lengths in
+    let passed : c.roots-at_roots.result.code ≡ READ = omega arith in
     survey_refused _ _ _ _
-    (nodes_decide _ _ _ c.pair-n.ensures.0 c.pair-r.ensures.0 f _ c.roots-at_roots.ensures c.if-at_roots-ne-READ.false _ c.first_stop-from.ensures _ c.nodes-at_nodes.ensures)
+    (nodes_decide _ _ _ c.pair-n.ensures.0 c.pair-r.ensures.0 f _ c.roots-at_roots.ensures passed _ c.first_stop-from.ensures _ c.nodes-at_nodes.ensures)
     c.if-at_nodes-ne-READ.true c.refused-then-at_nodes-ne-READ.ensures
 
 pub returns : goal.returns
@@ -90,5 +82,6 @@ returns c =
     let counts : counts_fit (nodes_of c.args.table.now) (rules_of c.args.table.now) ≡ true = sym (counts_said c.args.table.now _ _ c.pair-n.ensures.0 c.pair-r.ensures.0 _ _ _ c.in_range.ensures c.in_range-2.ensures c.both.ensures) ∙ c.if-not-both.false in
     let lengths : all_equal (length c.args.table.now) (length_of c.args.table.now) (formula c.args.table.now) ≡ true = sym (lengths_said c.args.table.now _ _ c.pair-n.ensures.0 c.pair-r.ensures.0 _ _ c.pair.ensures.0 c.all_equal.ensures) ∙ c.if-not-all_equal.false in
     let f = says_rest c.args.table.now c.if-table-lt7.false c.if-table-ne1.false counts lengths in
-    survey_read _ _ _ c.pair-n.ensures.0 c.pair-r.ensures.0 f _ c.roots-at_roots.ensures c.if-at_roots-ne-READ.false _ c.first_stop-from.ensures _ c.nodes-at_nodes.ensures
+    let passed : c.roots-at_roots.result.code ≡ READ = omega arith in
+    survey_read _ _ _ c.pair-n.ensures.0 c.pair-r.ensures.0 f _ c.roots-at_roots.ensures passed _ c.first_stop-from.ensures _ c.nodes-at_nodes.ensures
     c.if-at_nodes-ne-READ.false

@@ -1,11 +1,9 @@
 -- `stop` meets its contract: one answer for each kind, and one for all above.
-use mathlib.Core.Path.{◌≡◌, ◌∙◌}
-use Prim.Native.Nat.{◌<◌}
+use mathlib.Core.Path.{◌∙◌}
 use native.Mathlib.Omega.{arith}
-use borrow.Author.Tests.{lt-leb, ne_eqb}
 use Rattle.layout.specs.Layout.{fields_fit, fault_of}
 use Rattle.layout.specs.Survey.{stop_of}
-use Rattle.layout.proofs.Stops.{stop_repetition}
+use Rattle.layout.proofs.Stops.{stop_repetition, stop_above}
 use Rattle.layout.proofs.stop.Goals as goal
 
 pub returns-in-0 : goal.returns-in-0
@@ -37,7 +35,4 @@ unfolding stop_of fault_of fields_fit
 returns-in-6 c = rw c.in-6.is (c.repetition.ensures ∙ stop_repetition c.args.r c.args.i c.args.a c.args.b)
 
 pub returns-in_default : goal.returns-in_default
-unfolding stop_of fault_of
-returns-in_default c =
-    let h : 6 < c.args.kind = omega arith in
-    rw (ne_eqb c.args.kind 6 (λ (z : c.args.kind ≡ 6). omega arith), lt-leb _ _ h)
+returns-in_default c = stop_above _ _ _ _ _ (omega arith)

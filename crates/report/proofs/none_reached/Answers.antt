@@ -1,23 +1,14 @@
 -- A table is free if no left-recursive rule is found to be reachable; the masks alone may tell.
 use mathlib.Core.Path.{refl}
+use mathlib.Core.Logic.{◌≢◌}
 use mathlib.Core.Bool.{true, false, false≢true}
 use native.Mathlib.Omega.{arith}
 use Rattle.layout.specs.Table.{grammar_of}
 use Rattle.layout.proofs.Laying.{closed}
 use Rattle.report.proofs.Passes.{settled}
 use Rattle.report.specs.Pass.{every_node}
-use Rattle.report.proofs.Freely.{by_reached, told_none, free_none, told_one, free_one, untold}
+use Rattle.report.proofs.Freely.{by_reached, told_one, free_one, untold}
 use Rattle.report.proofs.none_reached.Goals as goal
-
-pub returns-then-left_recursive-eq0 : goal.returns-then-left_recursive-eq0
-returns-then-left_recursive-eq0 c =
-    let p = c.requires in
-    record {
-      free = free_none _ (closed _ p.0) _ p.2 c.if-left_recursive-eq0.true;
-      told = true;
-      tells = (λ e. told_none _ (closed _ p.0) _ p.2 c.if-left_recursive-eq0.true, λ h. refl);
-      written = refl;
-    }
 
 pub returns-then-not-apart : goal.returns-then-not-apart
 returns-then-not-apart c =
@@ -40,8 +31,8 @@ returns c =
     let p = c.requires in
     let g = grammar_of c.args.table.now in
     let some = c.apart.ensures in
-    let none = untold g (closed _ p.0) _ p.2 _ p.3 _ some c.if-left_recursive-eq0.false
-    c.if-not-apart.false in
+    let left : c.args.left_recursive ≢ 0 = omega arith in
+    let none = untold g (closed _ p.0) _ p.2 _ p.3 _ some left c.if-not-apart.false in
     record {
       free = by_reached g (closed _ p.0) _ p.2 _ c.reachable_rules-reached.ensures _ c.apart-2.ensures;
       told = false;

@@ -1,13 +1,15 @@
--- A visit is refused for effort before depth; else one visit more is made.
-use mathlib.Core.Logic.{inl, inr}
-use mathlib.Core.Path.{refl, sym, ◌∙◌}
+-- A visit is counted where the allowance is not spent and an open visit is left. Both refusals, EFFORT before DEEP, need no answer.
+use native.Mathlib.Omega.{arith}
+use mathlib.Core.Logic.{inr, ◌≢◌}
+use mathlib.Core.Path.{refl}
+use mathlib.Core.List.{[]}
+use Prim.Native.Nat.{◌<◌}
+use Rattle.visits.specs.Given.{lent, allowance_in, left_in}
+use Rattle.visits.specs.Words.{made_in}
 use Rattle.visits.proofs.enter.Goals as goal
 
-pub returns-then-allowance-made : goal.returns-then-allowance-made
-returns-then-allowance-made c = record { says = inl (c.if-allowance-made.true, refl, refl); lent = refl }
-
-pub returns-then-left-eq0 : goal.returns-then-left-eq0
-returns-then-left-eq0 c = record { says = inr (inl (c.if-allowance-made.false, sym c.left_of-left.ensures ∙ c.if-left-eq0.true, refl, refl)); lent = refl }
-
 pub returns : goal.returns
-returns c = record { says = inr (inr (c.if-allowance-made.false, λ none. c.if-left-eq0.false (c.left_of-left.ensures ∙ none), refl, refl)); lent = refl }
+returns c =
+    let unspent : made_in c.args.work.now.now < allowance_in (lent [] c.args.given.now) = omega arith in
+    let open_left : left_in c.args.spot ≢ 0 = omega arith in
+    record { says = inr (inr (unspent, open_left, refl, refl)); lent = refl }
