@@ -139,6 +139,9 @@ module _ (t : List ℕ) where
 
   module _ (n r : ℕ) (en : n ≡ nodes_of t) (er : r ≡ rules_of t)
       (says : layout_of t ≡ first_fault (root_fault t) 0 (rules_of t) or_else first_fault (node_fault t) 0 (nodes_of t)) (v : Verdict) (ev : v ≡ first_fault (root_fault t) 0 r) where
+    pub roots_refuse : v.code ≢ READ → layout_of t ≡ verdict v.code v.place
+    roots_refuse z = says ∙ rw (← er, ← ev, ne_eqb v.code READ z)
+
     module _ (passed : v.code ≡ READ) (p : ℕ) (s : FirstOf (stops t) 0 n p) (w : Verdict) (ew : w ≡ first_fault (node_fault t) p (n - p)) where
       pub nodes_decide : layout_of t ≡ verdict w.code w.place
       nodes_decide = says ∙ rw (← er, ← ev, eq-eqb v.code READ passed, ← en) (from_there n p s ∙ sym ew)
