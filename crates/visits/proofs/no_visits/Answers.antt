@@ -1,5 +1,6 @@
 -- `no_visits` writes the four numbers as 0.
 use native.Mathlib.Omega.{arith}
+use mathlib.Core.Path.{refl}
 use lib.ListN.{length-set}
 use Rattle.visits.proofs.no_visits.Goals as goal
 
@@ -11,3 +12,6 @@ bounds-work-2043 c = simp length-set (omega arith)
 
 pub bounds-work-2044 : goal.bounds-work-2044
 bounds-work-2044 c = simp length-set (omega arith)
+
+pub returns : goal.returns
+returns c = refl

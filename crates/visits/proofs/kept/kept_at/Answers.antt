@@ -19,3 +19,6 @@ overflow_mul-result-2 c =
 pub overflow_add-result-2 : goal.overflow_add-result-2
 overflow_add-result-2 c =
     omega (arith, pairs_before c.args.pos (get_or c.args.given.now 1 0) c.requires.1.1.1 c.requires.0)
+
+pub returns : goal.returns
+returns c = omega arith

@@ -20,9 +20,6 @@ none-earlier w live key i order lt low after k l e =
     let q : ¬ (k < i) = λ h. absurd (omega (arith, order k i h lt)) in
     omega arith
 
-pub returns-then-live-eq0 : goal.returns-then-live-eq0
-returns-then-live-eq0 c = (record { within = omega arith; is = λ z. absurd (omega arith); none = λ z i h. absurd (omega arith) }, refl)
-
 pub loop-i-init : goal.loop-i-init
 loop-i-init c = (omega arith, λ k h l. absurd (omega arith))
 
@@ -31,11 +28,6 @@ returns-then-work-i c =
     let at-loop = c.loop-i in
     let after = from-here _ _ _ at-loop.invariant.1 c.loop-i-test.true in
     (record { within = omega arith; is = λ z. absurd (omega arith); none = λ z. none-earlier c.args.work.now.now _ c.args.key at-loop.i c.requires.order at-loop.invariant.0 (omega (arith, c.if-work-i.true)) after }, refl)
-
-pub returns-then-i-eq0 : goal.returns-then-i-eq0
-returns-then-i-eq0 c =
-    let none = from-here _ _ _ c.loop-i.invariant.1 c.loop-i-test.true in
-    (record { within = omega arith; is = λ z. absurd (omega arith); none = λ z i h. none i (omega arith) h }, refl)
 
 pub loop-i-preserved : goal.loop-i-preserved
 loop-i-preserved c =
