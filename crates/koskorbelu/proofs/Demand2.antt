@@ -132,14 +132,14 @@ module _ (c : Call) where
         said = rw q (ended_own h);
         reached = rw q (ended_furthest h ∙ found.2);
         plain = λ free. let z = plain_answer t free m in (z.0, λ d. rw (q, ended_furthest h) (z.1 r d).1);
-        others = λ not-Free. rw (q, v) (exact_count not-Free m found.1.reads);
+        others = λ not_free. rw (q, v) (exact_count not_free m found.1.reads);
         kept = λ free. rw (q, v) (kept_count free m);
       }
     where
       exact_count : ¬ Free (grammar c) → {r : Answer} {s : State} {n : Amount} → run c ≡ Run.done r s → Published c r n → made c.allowance s ≡ n.visits
-      exact_count not-Free {r = r} {s = s} m h =
+      exact_count not_free {r = r} {s = s} m h =
           let found : (n : Amount) × Only (grammar c) c.line (left_recursive (grammar c)) r n × Amounts c.allowance n s =
-          rw m at (claims.other_sound (grammar c) c.line c.allowance (is_closed t.sheet) not-Free) in
+          rw m at (claims.other_sound (grammar c) c.line c.allowance (is_closed t.sheet) not_free) in
           sym found.2.visits ∙ ap (λ (n : Amount). n.visits) (one_reading (grammar c) c.line (left_recursive (grammar c)) found.1.reads h).count
 
       kept_count : Free (grammar c) → {r : Answer} {s : State} → run c ≡ Run.done r s
@@ -197,19 +197,19 @@ module _ (c : Call) where
       let z : (0 < h.1.1.left) × (made c.allowance h.1.1 + h.1.1.left ≡ c.allowance) = rw h.1.2 at (claims.effort_made (grammar c) c.line c.allowance) in
       rw (gives c (taken h.0 (deep h.1.2))) (omega (arith, z.0, z.1))
 
-  module _ (t : Taken c) (not-Free : ¬ Free (grammar c)) {r : Answer} {n : Amount} (h : Published c r n) where
+  module _ (t : Taken c) (not_free : ¬ Free (grammar c)) {r : Answer} {n : Amount} (h : Published c r n) where
     -- Where the bounded rules answer in n visits and so many are allowed, that is what comes back, in n visits and with their furthest position, or DEEP, if more than
     -- 512 are open at once.
     pub complete : n.visits ≤ c.allowance → ((code (back c) ≡ DEEP) × (512 < n.depth)) ⊎ Ended c n.visits n.furthest r (back c)
     complete le = of (came c t) refl
       where
         of : {o : Outcome} → Came c o → back c ≡ o → ((code (back c) ≡ DEEP) × (512 < n.depth)) ⊎ Ended c n.visits n.furthest r (back c)
-        of (effort m) q = absurd (rw m at (claims.other_complete (grammar c) c.line c.allowance (is_closed t.sheet) not-Free h le))
+        of (effort m) q = absurd (rw m at (claims.other_complete (grammar c) c.line c.allowance (is_closed t.sheet) not_free h le))
         of (deep m) q =
-            let z : 512 < n.depth = rw m at (claims.other_complete (grammar c) c.line c.allowance (is_closed t.sheet) not-Free h le) in
+            let z : 512 < n.depth = rw m at (claims.other_complete (grammar c) c.line c.allowance (is_closed t.sheet) not_free h le) in
             inl (ap code q, z)
         of {o} (done {r = r'} {s = s} m k) q =
-            let z : (r' ≡ r) × Amounts c.allowance n s = rw m at (claims.other_complete (grammar c) c.line c.allowance (is_closed t.sheet) not-Free h le) in
+            let z : (r' ≡ r) × Amounts c.allowance n s = rw m at (claims.other_complete (grammar c) c.line c.allowance (is_closed t.sheet) not_free h le) in
             inr (rw (q, ← z.0, z.1.visits, z.1.furthest) k)
 
     -- DEEP comes back only if more than 512 visits are open at once, whatever is allowed; and then no answer does.
@@ -218,7 +218,7 @@ module _ (c : Call) where
         let m = (exactly c DEEP).0 e in
         let g = grammar c in
         let l = left_recursive g in
-        let k = deep_always g c.line (grows l) c.allowance m.1.0 m.1.1 (sym (claims.as_other g c.line c.allowance (is_closed t.sheet) not-Free) ∙ m.1.2) in
+        let k = deep_always g c.line (grows l) c.allowance m.1.0 m.1.1 (sym (claims.as_other g c.line c.allowance (is_closed t.sheet) not_free) ∙ m.1.2) in
         let d = k.2 (suc n.visits) (omega arith) in
         rw d.3 at (read_complete g c.line l h (k.0 + suc n.visits) (omega arith))
 
@@ -228,7 +228,7 @@ module _ (c : Call) where
         of : {o : Outcome} → Came c o → Answers (code o) → ⊥
         of (effort m) a = not_answering a (omega arith)
         of (deep m) a = not_answering a (omega arith)
-        of (done m k) a = rw m at (claims.other_deep (grammar c) c.line c.allowance (is_closed t.sheet) not-Free h lt)
+        of (done m k) a = rw m at (claims.other_deep (grammar c) c.line c.allowance (is_closed t.sheet) not_free h lt)
 
     -- Unless DEEP comes back, EFFORT does exactly if fewer visits are allowed.
     pub effort_exactly : code (back c) ≢ DEEP → (code (back c) ≡ EFFORT) ↔ (c.allowance < n.visits)
@@ -241,7 +241,7 @@ module _ (c : Call) where
         of : c.allowance < n.visits → {o : Outcome} → Came c o → back c ≡ o → code (back c) ≡ EFFORT
         of l (effort m) q = ap code q
         of l (deep m) q = absurd (shallow (ap code q))
-        of l (done m k) q = absurd (rw m at (claims.other_short (grammar c) c.line c.allowance (is_closed t.sheet) not-Free h l))
+        of l (done m k) q = absurd (rw m at (claims.other_short (grammar c) c.line c.allowance (is_closed t.sheet) not_free h l))
 
   -- 02, W-205: where the reading in which every rule becomes live is not refused, neither is the call, and it has the same answer and furthest position in no more visits.
   pub as_before : (t : Taken c) {r : Answer} {s : State} → claims.read_before (grammar c) c.line c.allowance ≡ Run.done r s

@@ -10,7 +10,7 @@ use Rattle.meaning.specs.Grammar as grammar
 use Rattle.meaning.specs.Grammar.{Node, empty, range, rule, seq, choice, not, rep, Grammar, node, Below, Closed}
 use Rattle.layout.specs.declared.Verdict.{Verdict}
 use Rattle.layout.specs.Table.{nodes_of, most_nodes, rules_of, most_rules, root_of, node_at, formula, kind_of, field_of, a_of, b_of, WellLaid, decode, node_of, each, grammar_of}
-use Rattle.layout.specs.Table.{Fits, is_empty, is_range_lem, is_rule, is_sequence, is_choice, is_not, is_repetition_lem}
+use Rattle.layout.specs.Table.{Fits, is_empty, is_range, is_rule, is_sequence, is_choice, is_not, is_repetition}
 use Rattle.layout.specs.Layout.{READ, layout_of, Laid}
 use Rattle.layout.proofs.Exact.{laid_iff}
 
@@ -25,12 +25,12 @@ well_laid t = (laid_iff t).0
 -- Fields of a node are small: children and rules are, and bytes.
 fields_small : {r i kind a b : ℕ} → Fits r i kind a b → r ≤ most_rules → i < most_nodes → (a < most_nodes) × (b < most_nodes)
 fields_small is_empty r i = omega arith
-fields_small (is_range_lem h l) r i = omega arith
+fields_small (is_range h l) r i = omega arith
 fields_small (is_rule h) r i = omega arith
 fields_small (is_sequence h l) r i = omega arith
 fields_small (is_choice h l) r i = omega arith
 fields_small (is_not h) r i = omega arith
-fields_small (is_repetition_lem h) r i = omega arith
+fields_small (is_repetition h) r i = omega arith
 
 pub small_field : (t : List ℕ) → Laid t → (i at : ℕ) → i < nodes_of t → at % 2 ≡ 1 → at ≤ 3 → field_of t i at < most_nodes
 small_field t laid i at h odd le =
@@ -91,12 +91,12 @@ Bounds r i (rep a) = a < i
 
 bounded : {r i kind a b : ℕ} → Fits r i kind a b → Bounds r i (decode kind a b)
 bounded is_empty = tt
-bounded (is_range_lem h l) = (h, l)
+bounded (is_range h l) = (h, l)
 bounded (is_rule h) = h
 bounded (is_sequence h l) = (h, l)
 bounded (is_choice h l) = (h, l)
 bounded (is_not h) = h
-bounded (is_repetition_lem h) = h
+bounded (is_repetition h) = h
 
 below : (g : Grammar) (r i : ℕ) → length g.roots ≡ r → (n : Node) → Bounds r i n → Below g i n
 below g r i e empty h = tt

@@ -8,7 +8,7 @@ use Prim.Native.Nat.{ℕ, zero, suc, ◌≤◌, ◌<◌}
 use native.Mathlib.Omega.{arith}
 use borrow.Author.Tests.{leb-true, le-leb, ltb-true, lt-ltb, eqb-true, eq-eqb}
 use lib.Dec.{leb, ltb, eqb}
-use Rattle.layout.specs.Table.{nodes_of, most_nodes, most_rules, root_of, Fits, is_empty, is_range_lem, is_rule, is_sequence, is_choice, is_not, is_repetition_lem}
+use Rattle.layout.specs.Table.{nodes_of, most_nodes, most_rules, root_of, Fits, is_empty, is_range, is_rule, is_sequence, is_choice, is_not, is_repetition}
 use Rattle.layout.specs.Layout.{READ, in_range, counts_fit, all_equal, root_fault, fields_fit}
 
 leb_iff : (a b : ℕ) → (leb a b ≡ true) ↔ (a ≤ b)
@@ -51,32 +51,32 @@ module _ (r i : ℕ) where
   fits : (kind a b : ℕ) → fields_fit r i kind a b ≡ true → Fits r i kind a b
   unfolding fields_fit
   fits zero a b e = let h = (both _ _ (eqb_iff a 0) (eqb_iff b 0)).0 e in rw (h.0, h.1) is_empty
-  fits (suc zero) a b e = let h = (both _ _ (leb_iff a b) (leb_iff b 255)).0 e in is_range_lem h.0 h.1
+  fits (suc zero) a b e = let h = (both _ _ (leb_iff a b) (leb_iff b 255)).0 e in is_range h.0 h.1
   fits (suc (suc zero)) a b e = let h = (both _ _ (ltb_iff a r) (eqb_iff b 0)).0 e in rw h.1 (is_rule h.0)
   fits (suc (suc (suc zero))) a b e = let h = (both _ _ (ltb_iff a i) (ltb_iff b i)).0 e in is_sequence h.0 h.1
   fits (suc (suc (suc (suc zero)))) a b e = let h = (both _ _ (ltb_iff a i) (ltb_iff b i)).0 e in is_choice h.0 h.1
   fits (suc (suc (suc (suc (suc zero))))) a b e = let h = (both _ _ (ltb_iff a i) (eqb_iff b 0)).0 e in rw h.1 (is_not h.0)
-  fits (suc (suc (suc (suc (suc (suc zero)))))) a b e = let h = (both _ _ (ltb_iff a i) (eqb_iff b 0)).0 e in rw h.1 (is_repetition_lem h.0)
+  fits (suc (suc (suc (suc (suc (suc zero)))))) a b e = let h = (both _ _ (ltb_iff a i) (eqb_iff b 0)).0 e in rw h.1 (is_repetition h.0)
   fits (suc (suc (suc (suc (suc (suc (suc kind))))))) a b e = absurd (false≢true e)
 
   passes : {kind a b : ℕ} → Fits r i kind a b → fields_fit r i kind a b ≡ true
   unfolding fields_fit
   passes is_empty = refl
-  passes (is_range_lem {lowest = a} {highest = b} h l) = (both _ _ (leb_iff a b) (leb_iff b 255)).1 (h, l)
+  passes (is_range {lowest = a} {highest = b} h l) = (both _ _ (leb_iff a b) (leb_iff b 255)).1 (h, l)
   passes (is_rule {a} h) = (both _ _ (ltb_iff a r) (eqb_iff 0 0)).1 (h, refl)
   passes (is_sequence {a} {b} h l) = (both _ _ (ltb_iff a i) (ltb_iff b i)).1 (h, l)
   passes (is_choice {a} {b} h l) = (both _ _ (ltb_iff a i) (ltb_iff b i)).1 (h, l)
   passes (is_not {a} h) = (both _ _ (ltb_iff a i) (eqb_iff 0 0)).1 (h, refl)
-  passes (is_repetition_lem {a} h) = (both _ _ (ltb_iff a i) (eqb_iff 0 0)).1 (h, refl)
+  passes (is_repetition {a} h) = (both _ _ (ltb_iff a i) (eqb_iff 0 0)).1 (h, refl)
 
   pub fits_iff : (kind a b : ℕ) → (fields_fit r i kind a b ≡ true) ↔ Fits r i kind a b
   fits_iff kind a b = (fits kind a b, passes)
 
 pub kind_fits : {r i kind a b : ℕ} → Fits r i kind a b → kind ≤ 6
 kind_fits is_empty = omega arith
-kind_fits (is_range_lem h l) = omega arith
+kind_fits (is_range h l) = omega arith
 kind_fits (is_rule h) = omega arith
 kind_fits (is_sequence h l) = omega arith
 kind_fits (is_choice h l) = omega arith
 kind_fits (is_not h) = omega arith
-kind_fits (is_repetition_lem h) = omega arith
+kind_fits (is_repetition h) = omega arith

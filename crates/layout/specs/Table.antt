@@ -57,12 +57,12 @@ b_of t i = field_of t i 3
 -- 01: "A child's number is below its parent's."
 pub data Fits (r i : ℕ) : (kind a b : ℕ) → Type 0 where
   is_empty : Fits r i 0 0 0
-  is_range_lem : {lowest highest : ℕ} → lowest ≤ highest → highest ≤ 255 → Fits r i 1 lowest highest
+  is_range : {lowest highest : ℕ} → lowest ≤ highest → highest ≤ 255 → Fits r i 1 lowest highest
   is_rule : {a : ℕ} → a < r → Fits r i 2 a 0
   is_sequence : {a b : ℕ} → a < i → b < i → Fits r i 3 a b
   is_choice : {a b : ℕ} → a < i → b < i → Fits r i 4 a b
   is_not : {a : ℕ} → a < i → Fits r i 5 a 0
-  is_repetition_lem : {a : ℕ} → a < i → Fits r i 6 a 0
+  is_repetition : {a : ℕ} → a < i → Fits r i 6 a 0
 
 abbrev pub NodeFits : List ℕ → ℕ → Type 0
 NodeFits t i = Fits (rules_of t) i (kind_of t i) (a_of t i) (b_of t i)

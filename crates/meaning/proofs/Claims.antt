@@ -86,33 +86,33 @@ module _ (g : Grammar) (line : List ℕ) where
       -- (Decided.free_iff), left_recursive which rules they are (Decided.recursive_iff).
       pub as_other : ¬ Free g → read g line allowance ≡ read_by g line (grows (left_recursive g)) allowance
       unfolding read
-      as_other not-Free = by (is_free g) refl
+      as_other not_free = by (is_free g) refl
         where
           by : (free : Bool) → is_free g ≡ free → read_by g line (way_of free (left_recursive g)) allowance ≡ read_by g line (grows (left_recursive g)) allowance
-          by true e = absurd (not-Free ((free_iff g good).0 e))
+          by true e = absurd (not_free ((free_iff g good).0 e))
           by false e = refl
 
       pub as_free : Free g → read g line allowance ≡ read_by g line keeps allowance
       unfolding read
       as_free free = rw ((free_iff g good).1 free)
 
-      module _ (not-Free : ¬ Free g) where
+      module _ (not_free : ¬ Free g) where
         -- Not free, sound: a reading that is done is the bounded rules' reading with exactly the visits made and the furthest position reached, and no other is.
         pub other_sound : All (λ r t. (n : Amount) × Only (left_recursive g) r n × Amounts allowance n t) (read g line allowance)
-        other_sound = rw (as_other not-Free)
+        other_sound = rw (as_other not_free)
             (all_map (read_by g line (grows (left_recursive g)) allowance) (read_sound g line (left_recursive g) allowance) (λ r t h. (h.0, the_only h.1, h.2)))
 
         -- Not free, complete: where the bounded rules answer r in n visits and so many are allowed, it ends with r and what n amounts to, never EFFORT, and DEEP only if
         -- more than 512 visits are open at once.
         pub other_complete : {r : Answer} {n : Amount} → Reads g line (left_recursive g) r n → n.visits ≤ allowance
             → Ends (λ t. ⊥) (λ t. 512 < n.depth) (λ q t. (q ≡ r) × Amounts allowance n t) (read g line allowance)
-        other_complete h le = rw (as_other not-Free)
+        other_complete h le = rw (as_other not_free)
             (ends_both (read_by g line (grows (left_recursive g)) allowance) (read_complete g line (left_recursive g) h allowance le) (read_sound g line (left_recursive g) allowance)
             (λ t z w. z) (λ t z w. z) (λ q t z w. (z.0, rw (one_reading g line (left_recursive g) h w.1).count w.2)))
 
         -- Where fewer are allowed, or more are open at once, it is never done.
         pub other_short : {r : Answer} {n : Amount} → Reads g line (left_recursive g) r n → allowance < n.visits → All (λ q t. ⊥) (read g line allowance)
-        other_short h lt = rw (as_other not-Free) (read_short g line (left_recursive g) h allowance lt)
+        other_short h lt = rw (as_other not_free) (read_short g line (left_recursive g) h allowance lt)
 
         pub other_deep : {r : Answer} {n : Amount} → Reads g line (left_recursive g) r n → 512 < n.depth → All (λ q t. ⊥) (read g line allowance)
         other_deep h lt =

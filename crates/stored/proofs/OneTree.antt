@@ -38,7 +38,7 @@ unfolding records_at
 length_records w bytes at zero = refl
 length_records w bytes at (suc n) = ap suc (length_records w bytes (at + record_size w) n)
 
--- 01: "slice length, bytes 1-2 and formula agree", and the rest of what is said of well_formed bytes.
+-- 01: "slice length, bytes 1-2 and formula agree", and the rest of what is said of well-formed bytes.
 pub record Parts (w r l : ℕ) (bytes : List ℕ) : Type 0 where
   pub version : get_or bytes 0 0 ≡ w
   long : number_at 2 bytes 1 ≡ length bytes

@@ -4,8 +4,8 @@
 // the width of a position: one byte in version 1, two in version 2, and the version is the width. specs/Version says which version a line
 // gives, by its length alone. put_head and put_record write it piece by piece, each over what stands in the room; well_formed judges any
 // slice, however long, with scratch of its own.
-// proofs/Written shows that what is stored of a tree whose spans nest (specs/Nested) is well formed; proofs/OneTree that well_formed bytes
-// are stored of exactly one tree, which treeOf (specs/ReadBack) reads back from them; proofs/Versions that each version is well formed only
+// proofs/Written shows that what is stored of a tree whose spans nest (specs/Nested) is well formed; proofs/OneTree that well-formed bytes
+// are stored of exactly one tree, which tree_of (specs/ReadBack) reads back from them; proofs/Versions that each version is well formed only
 // for its lines.
 #![tactic(auto)]
 

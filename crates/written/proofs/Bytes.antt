@@ -8,7 +8,7 @@ use lib.ListN.{length, get_or, length-append}
 use lib.Seq.{get_or-append-add, ext_get_or}
 use Rattle.meaning.specs.Grammar.{Node, empty, range, rule, seq, choice, not, rep}
 use Rattle.layout.specs.Table.{byte_at, pair_at, length_of, nodes_of, most_nodes, rules_of, most_rules, root_of, node_at, formula, kind_of, field_of, decode, node_of, each, grammar_of}
-use Rattle.layout.specs.Table.{Fits, is_empty, is_range_lem, is_rule, is_sequence, is_choice, is_not, is_repetition_lem, NodeFits}
+use Rattle.layout.specs.Table.{Fits, is_empty, is_range, is_rule, is_sequence, is_choice, is_not, is_repetition, NodeFits}
 use Rattle.layout.specs.Layout.{Laid}
 use Rattle.layout.proofs.Tests.{kind_fits}
 use Rattle.layout.proofs.Exact.{laid_iff}
@@ -88,12 +88,12 @@ decoded (rep a) = refl
 
 fitting : (r i : ℕ) (q : Node) → Bounds r i q → Fits r i (kind_number q) (first q) (second q)
 fitting r i empty h = is_empty
-fitting r i (range lo hi) h = is_range_lem h.0 h.1
+fitting r i (range lo hi) h = is_range h.0 h.1
 fitting r i (rule a) h = is_rule h
 fitting r i (seq a b) h = is_sequence h.0 h.1
 fitting r i (choice a b) h = is_choice h.0 h.1
 fitting r i (not a) h = is_not h
-fitting r i (rep a) h = is_repetition_lem h
+fitting r i (rep a) h = is_repetition h
 
 -- A node's five bytes stand at p.
 record Stands (t : List ℕ) (p : ℕ) (q : Node) : Type 0 where

@@ -113,7 +113,7 @@ module _ (ls : List Line) where
   -- A node of the grammar is what is written. In e+ the same node is e and what e* repeats.
   pub data Is : Written → Node → Type 0 where
     is_name : {n : Name} {l : Line} → LineAt ls (rule_in ls n) l → Is (name n) (g.rule (rule_in ls n))
-    is_range_lem : {lowest highest : ℕ} → Is (range lowest highest) (g.range lowest highest)
+    is_range : {lowest highest : ℕ} → Is (range lowest highest) (g.range lowest highest)
     is_star : {e : Written} {i : ℕ} → Is e (node gr i) → Is (star e) (g.rep i)
     is_plus : {e : Written} {i j : ℕ} → Is e (node gr i) → node gr j ≡ g.rep i → Is (plus e) (g.seq i j)
     is_maybe : {e : Written} {i j : ℕ} → Is e (node gr i) → node gr j ≡ g.empty → Is (maybe e) (g.choice i j)
@@ -133,7 +133,7 @@ module _ (ls : List Line) where
   built : (s : ℕ) (w : Written) → Named ls w → Held (node gr) s (nodes (rule_in ls) s w) → Is w (node gr (last s w))
   unfolding nodes
   built s (name n) k p = rw p.0 (is_name (k n here).1)
-  built s (range lowest highest) k p = rw p.0 is_range_lem
+  built s (range lowest highest) k p = rw p.0 is_range
   built s (star e) k p =
       let (b, n) = parts s e (g.rep (last s e) ∷ []) p in
       rw n.0 (is_star (built s e (λ n u. k n (in_star u)) b))
@@ -174,8 +174,8 @@ module _ (ls : List Line) where
 
     -- A derivation of what is written is one of its node, rule by rule, and back.
     forth : {line : List ℕ} {w : Written} {q : Node} {x : ℕ} {a : Answer} → Means ls line w x a → Is w q → Plain gr line q x a
-    forth (char1 t) is_range_lem = r.char1 t
-    forth (char2 t) is_range_lem = r.char2 t
+    forth (char1 t) is_range = r.char1 t
+    forth (char2 t) is_range = r.char2 t
     forth (var at h) (is_name o) = r.var (forth h (stands at))
     forth (con1 h k) (is_then a b) = r.con1 (forth h a) (forth k b)
     forth (con2 h k) (is_then a b) = r.con2 (forth h a) (forth k b)
@@ -192,8 +192,8 @@ module _ (ls : List Line) where
     forth (maybe2 h) (is_maybe a e) = r.ord2 (forth h a) (matches_nothing e)
 
     back : {line : List ℕ} {q : Node} {x : ℕ} {a : Answer} → Plain gr line q x a → {w : Written} → Is w q → Means ls line w x a
-    back (r.char1 t) is_range_lem = char1 t
-    back (r.char2 t) is_range_lem = char2 t
+    back (r.char1 t) is_range = char1 t
+    back (r.char2 t) is_range = char2 t
     back (r.var h) (is_name o) = var o (back h (stands o))
     back (r.con1 h k) (is_then a b) = con1 (back h a) (back k b)
     back (r.con1 h k) (is_plus a e) = plus_is (con1 (back h a) (back k (starred a e)))
