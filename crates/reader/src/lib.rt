@@ -100,6 +100,7 @@ fn unread(whole: bool, end: u64, long: u64) -> bool
 }
 
 // How the visits ended, by 01's rows 11 to 16 and 0; only a reading writes the room.
+#[tactic(auto, unfolding(crate::specs::Answer::run_outcome))]
 fn finish(line: &[u8], work: &[u32], room: &mut [u8], whole: bool, answer: u64) -> Reading
     requires { Finishable (length line.now) work.now (after_visit answer work.now) × (length line.now ≤ longest_line) }
     ensures { Finished whole (length line.now) work.now (after_visit answer work.now) result room.old room.new }

@@ -1,5 +1,5 @@
 -- A repetition whose child is no range.
-use mathlib.Core.Path.{sym, ◌∙◌}
+use mathlib.Core.Path.{refl, sym, ◌∙◌}
 use borrow.Author.Tests.{eq-eqb, ne_eqb}
 use Rattle.sheet.specs.Search.{suspect}
 use Rattle.sheet.proofs.Searching.{child_there}
@@ -20,4 +20,4 @@ pub returns : goal.returns
 unfolding suspect
 returns c =
     let six = eq-eqb _ _ (sym c.kind_from.ensures.0 ∙ c.if-kind_from-ne6.false) in
-    rw (six, ← c.field_a_from-child.ensures.0, ← c.kind_from-2.ensures.0)
+    rw (six, ← c.field_a_from-child.ensures.0, ← c.kind_from-2.ensures.0) refl
