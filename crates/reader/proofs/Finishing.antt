@@ -18,7 +18,7 @@ use Rattle.cells.proofs.Frame.{arena_less}
 use Rattle.visits.specs.Words.{furthest_in}
 use Rattle.visits.specs.Says.{FAILED, STOPPED, Visited}
 use Rattle.reader.specs.declared.Reading.{Reading}
-use Rattle.reader.specs.Answer.{REST, RECORDS, ROOM, longest_line, numbers, match_outcome, run_outcome, Leaves}
+use Rattle.reader.specs.Answer.{FAIL, REST, RECORDS, ROOM, longest_line, numbers, match_outcome, run_outcome, Leaves}
 use Rattle.reader.specs.Steps.{Finishable, Finished}
 
 same_numbers : {c c' p p' m m' v v' r r' f f' : ℕ} → c ≡ c' → p ≡ p' → m ≡ m' → v ≡ v' → r ≡ r' → f ≡ f' → numbers c p m v r f ≡ numbers c' p' m' v' r' f'
@@ -49,6 +49,13 @@ module _ (whole : Bool) (long : ℕ) (w : List ℕ) (v : Visited) (room : List �
       record { returned = same_numbers (omega arith) (omega arith) refl (omega arith) refl (furthest-is ∙ sym h.furthest); working = refl; stored = refl }
   by_refusal e allowance (done fail s) work h = let q = h.at in absurd (omega arith)
   by_refusal e allowance (done (ok y ts) s) work h = let q = h.2.at in let i = h.1 in absurd (omega arith)
+
+  pub by_failure : end ≡ FAILED → Finished whole long w v (numbers FAIL 0 0 made 0 furthest) room room
+  unfolding run_outcome
+  by_failure e allowance (effort p s) work h = let q = h.end in absurd (omega arith)
+  by_failure e allowance (deep p s) work h = let q = h.end in absurd (omega arith)
+  by_failure e allowance (done fail s) work h = let q = h.left in record { returned = same_numbers refl refl refl (omega arith) refl (furthest-is ∙ sym h.furthest); working = refl; stored = refl }
+  by_failure e allowance (done (ok y ts) s) work h = let q = h.2.at in let i = h.1 in absurd (omega arith)
 
   -- A match: what comes back is by its end, its trees, the visits made and the furthest position.
   module _ (lt : end < STOPPED) (r : Reading) (new : List ℕ) (k : (work : List ℕ) → Leaves (match_outcome whole long end (trees_at w list) made furthest work room) r work new) where
