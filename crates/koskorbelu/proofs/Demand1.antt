@@ -47,10 +47,10 @@ module _ (c : Call) where
   pub told_so : {visits furthest : ℕ} {r : Answer} {o : Outcome} → Ended c visits furthest r o → told visits furthest r ≡ o
   unfolding match_outcome
   told_so fails = refl
-  told_so (rest {e = e} h) = rw ((ends_iff e).1 h)
-  told_so (records {e = e} n h) = rw ((failed-iff (ends_iff e)).1 n, lt-ltb _ _ h)
-  told_so (room {e = e} n h l) = rw ((failed-iff (ends_iff e)).1 n, le-ltb _ _ h, lt-ltb _ _ l)
-  told_so (reads {e = e} n h l) = rw ((failed-iff (ends_iff e)).1 n, le-ltb _ _ h, le-ltb _ _ l)
+  told_so (rest {e = e} h) = rw ((ends_iff e).1 h) refl
+  told_so (records {e = e} n h) = rw ((failed-iff (ends_iff e)).1 n, lt-ltb most_records _ h) refl
+  told_so (room {e = e} n h l) = rw ((failed-iff (ends_iff e)).1 n, le-ltb _ _ h, lt-ltb _ _ l) refl
+  told_so (reads {e = e} n h l) = rw ((failed-iff (ends_iff e)).1 n, le-ltb _ _ h, le-ltb _ _ l) refl
 
   pub by_answer : Taken c → (r : Answer) (s : State) → run c ≡ Run.done r s → back c ≡ told (made c.allowance s) s.furthest r
   unfolding run_outcome
