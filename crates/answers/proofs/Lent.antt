@@ -7,9 +7,9 @@ use lib.ListN.{length, replicate, length-replicate}
 use Rattle.meaning.specs.Grammar.{Trees, fail, ok}
 use Rattle.meaning.specs.Reading.{Run, effort, deep, done, read}
 use Rattle.layout.specs.Table.{nodes_of, grammar_of}
+use Rattle.page.specs.declared.Page.{Page}
 use Rattle.page.specs.Page.{Puts}
-use Rattle.reader.specs.declared.Reading.{Reading}
-use Rattle.reader.specs.Answer.{Outcome, Leaves, work_needed, cleared, match_outcome, run_outcome, reading_of}
+use Rattle.reader.specs.Answer.{Numbers, Outcome, Leaves, work_needed, cleared, match_outcome, run_outcome, reading_of}
 use Rattle.answers.specs.Printed.{allowance, working_numbers, room_bytes, answer_text, outcome_of, line_text, Answers}
 
 -- the reading of a choice is a choice of readings
@@ -38,12 +38,12 @@ same_reading whole table line lent work room work' room' numbers bytes =
     simp (numbers, chosen, run_same whole (cleared k work) room (cleared k work') room' bytes (length line) lent run)
 
 -- a line that is read with what the program lends has the program's answer
-pub answered : (table line work room page : List ℕ) (used : ℕ) (work_after room_after page_after : List ℕ) (used_after lent : ℕ) (r : Reading)
-    → Leaves (reading_of true table line lent work room) r work_after room_after → Puts page used (answer_text r) page_after used_after
+pub answered : {page page_after : Page} (table line work room work_after room_after : List ℕ) (lent : ℕ) (r : Numbers)
+    → Leaves (reading_of true table line lent work room) r work_after room_after → Puts page (answer_text r) page_after
     → lent ≡ allowance → length work ≡ working_numbers → length room ≡ room_bytes
-    → Answers table line work room page used work_after room_after page_after used_after
+    → Answers table line work room page work_after room_after page_after
 unfolding line_text
-answered table line work room page used work_after room_after page_after used_after lent r left put same numbers bytes =
+answered table line work room work_after room_after lent r left put same numbers bytes =
     let by : Leaves (outcome_of table line work room) r work_after room_after = rw same at left in
     let reading : r ≡ (outcome_of table line (replicate working_numbers 0) (replicate room_bytes 0)).reading =
     by.returned ∙ same_reading true table line allowance work room (replicate working_numbers 0) (replicate room_bytes 0) (numbers ∙ sym (length-replicate {A = ℕ} working_numbers 0)) (bytes ∙ sym (length-replicate {A = ℕ} room_bytes 0)) in

@@ -1,9 +1,9 @@
 -- 01, the program: "for each it prints READ matched visits records, or the code's name, place and visits", as bytes; and what a line is lent.
 use Rattle.std.specs.Prelude.{◌≡◌, true, cond, List, [], ◌∷◌, ◌++◌, ℕ, get_or, replicate, ltb}
+use Rattle.page.specs.declared.Page.{Page}
 use Rattle.page.specs.Page.{Puts}
 use Rattle.page.specs.Decimal.{decimal}
-use Rattle.reader.specs.declared.Reading.{Reading}
-use Rattle.reader.specs.Answer.{Outcome, reading_of}
+use Rattle.reader.specs.Answer.{Numbers, Outcome, reading_of}
 use Rattle.answers.specs.Quoted.{bytes}
 
 -- 01: "allowance 2,500, 16,384 working numbers, room 5,005".
@@ -57,7 +57,7 @@ refusal_text code place visits = name_of code ++ (next_number place ++ (next_num
 unfoldable pub read_text : (matched visits records : ℕ) → List ℕ
 read_text matched visits records = name_of 0 ++ (next_number matched ++ (next_number visits ++ (next_number records ++ line_end)))
 
-unfoldable pub answer_text : Reading → List ℕ
+unfoldable pub answer_text : Numbers → List ℕ
 answer_text r = cond (ltb 0 r.code) (refusal_text r.code r.place r.visits) (read_text r.matched r.visits r.records)
 
 -- The program's reading of a line: whole-line, with its allowance.
@@ -69,7 +69,7 @@ unfoldable pub line_text : (table line : List ℕ) → List ℕ
 line_text table line = answer_text (outcome_of table line (replicate working_numbers 0) (replicate room_bytes 0)).reading
 
 -- A line was read, and its text is put on the page; working numbers and room are as a reading leaves them.
-pub record Answers (table line : List ℕ) (work room page : List ℕ) (used : ℕ) (work_after room_after page_after : List ℕ) (used_after : ℕ) : Type 0 where
-  pub printed : Puts page used (line_text table line) page_after used_after
+pub record Answers (table line work room : List ℕ) (page : Page) (work_after room_after : List ℕ) (page_after : Page) : Type 0 where
+  pub printed : Puts page (line_text table line) page_after
   pub working : work_after ≡ (outcome_of table line work room).work
   pub stored : room_after ≡ (outcome_of table line work room).room

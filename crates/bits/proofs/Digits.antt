@@ -1,4 +1,4 @@
--- The digits of a mask: what `|`, `&`, `<<`, the count of ones, the count of trailing zeros and two halves do to them.
+-- The digits of a mask: what `|`, `&`, `<<`, the count of ones and the count of trailing zeros do to them.
 use mathlib.Core.Path.{◌≡◌, refl, sym, ap, ap₂, ◌∙◌}
 use mathlib.Core.Bool.{Bool, true, false, not, ◌&&◌, ◌||◌}
 use Prim.Native.Nat.{ℕ, zero, suc, ◌+◌, ◌*◌, ◌/◌, ◌%◌, ◌^◌, ◌≤◌, ◌<◌, min, max}
@@ -6,10 +6,10 @@ use native.Mathlib.Nat.{zero-mul, mod-lt, mul_assoc, mul-one, add-zero, pow-suc,
 use native.Mathlib.Numerals.{add-one}
 use native.Mathlib.Omega.{arith}
 use borrow.Author.Tests.{ne_eqb}
-use lib.Dec.{lit<, lit≤, eqb, eqb-zero-suc, eqb-suc-zero, eqb-suc-suc}
+use lib.Dec.{lit<, eqb, eqb-zero-suc, eqb-suc-zero, eqb-suc-suc}
 use lib.Arith.{digits_div, digits_mod}
 use lib.Pow.{pow_pos, shl_exact, shr_lt}
-use lib.Bits.{bit_and, bit_or, or_step, and_step, and_mask, or_add_and, and_le_r, shifted_half, shifted_even, or_shifted_r}
+use lib.Bits.{bit_and, bit_or, or_step, and_step, and_mask, or_add_and, and_le_r, shifted_half, shifted_even}
 use lib.Count.{ones, ones_step, ones-le, count_trailing_zeros, under}
 use Rattle.bits.specs.Mask.{digit, has, Added, one, how_many, next, least}
 
@@ -143,8 +143,3 @@ pub lowest_is : (k m : ℕ) → count_trailing_zeros k m ≡ least (has m) k
 unfolding least has digit count_trailing_zeros
 lowest_is zero m = refl
 lowest_is (suc k) m = under_low (m % 2) (count_trailing_zeros k (m / 2)) (low m) ∙ ap (next (eqb (m % 2) 1)) (lowest_is k (m / 2))
-
--- ---- halves
-
-pub from_halves : (low high : ℕ) → low < 2 ^ 32 → high < 2 ^ 32 → bit_or low ((high * 2 ^ 32) % 2 ^ 64) ≡ high * 2 ^ 32 + low
-from_halves low high l h = rw (shl_exact 32 32 64 h (lit≤ tt)) (or_shifted_r high 32 low l)

@@ -16,6 +16,7 @@ ghost use Rattle.std.specs.Prelude.{◌≡◌, true, ◌↔◌, ℕ, ◌+◌, �
 ghost use Rattle.bits.specs.Mask.{has, Added, Apart, how_many, least};
 ghost use Rattle.bits.specs.Marks.{marked, WithMark};
 
+#[tactic(auto, using(crate::proofs::Digits::has_test))]
 pub fn has_rule(mask: u64, rule: usize) -> bool
     requires { rule < 64 }
     ensures { result ≡ has mask rule }
@@ -23,6 +24,7 @@ pub fn has_rule(mask: u64, rule: usize) -> bool
     mask & (1u64 << rule) != 0
 }
 
+#[tactic(auto, using(crate::proofs::Digits::added))]
 pub fn add_rule(mask: u64, rule: usize) -> u64
     requires { rule < 64 }
     ensures { Added mask rule result }
@@ -31,6 +33,7 @@ pub fn add_rule(mask: u64, rule: usize) -> u64
 }
 
 // Whether no rule is in both sets.
+#[tactic(auto, using(crate::proofs::Laws::apart_iff))]
 pub fn apart(a: u64, b: u64) -> bool
     ensures { (result ≡ true) ↔ Apart a b }
 {
@@ -38,6 +41,7 @@ pub fn apart(a: u64, b: u64) -> bool
 }
 
 // How many rules the set has.
+#[tactic(auto, using(crate::proofs::Digits::counted))]
 pub fn count(mask: u64) -> u32
     ensures { result ≡ how_many (has mask) 64 }
 {
@@ -45,6 +49,7 @@ pub fn count(mask: u64) -> u32
 }
 
 // The lowest rule of the set, 64 if there is none.
+#[tactic(auto, using(crate::proofs::Digits::lowest_is))]
 pub fn lowest(mask: u64) -> u32
     ensures { result ≡ least (has mask) 64 }
 {
@@ -55,7 +60,7 @@ pub fn lowest(mask: u64) -> u32
 pub fn low_half(mask: u64) -> u32
     ensures { result ≡ mask % 2 ^ 32 }
 {
-    (mask & 4294967295) as u32
+    (mask & 0xffff_ffff) as u32
 }
 
 // Rules 32 to 63 of the set, in a word.
@@ -68,13 +73,14 @@ pub fn high_half(mask: u64) -> u32
 pub fn from_halves(low: u32, high: u32) -> u64
     ensures { result ≡ high * 2 ^ 32 + low }
 {
-    low as u64 | (high as u64) << 32
+    u64::from(low) | u64::from(high) << 32
 }
 
 // ---- Sets of nodes: as many words as 512 nodes take.
 
 pub const WORDS: usize = 8;
 
+#[tactic(auto, unfolding(crate::specs::Marks::marked))]
 pub fn marked(marks: &[u64; WORDS], node: usize) -> bool
     requires { node < 512 }
     ensures { result ≡ marked marks.now node }

@@ -1,11 +1,11 @@
 -- The trees of a list, and the frame: what lies below is not changed by any change above or beside the cells.
-use mathlib.Core.Path.{◌≡◌, refl, ◌∙◌}
+use mathlib.Core.Path.{◌≡◌, refl, sym, ◌∙◌}
 use mathlib.Core.Logic.{⊎_elim}
 use mathlib.Core.List.{List, []}
 use native.Mathlib.Omega.{arith}
 use native.Mathlib.Numerals.{add-one}
 use native.Mathlib.Nat.{eq-or-lt_of_le}
-use Prim.Native.Nat.{ℕ, zero, suc, ◌+◌, ◌*◌, ◌/◌, ◌%◌, ◌<◌, ◌≤◌}
+use Prim.Native.Nat.{ℕ, zero, suc, ◌+◌, ◌-◌, ◌*◌, ◌/◌, ◌%◌, ◌<◌, ◌≤◌}
 use lib.ListN.{length, get_or, length-append, get_or-append}
 use lib.Seq.{sets, length-sets, get_or_at}
 use borrow.Author.Tests.{le-ltb, lt-ltb}
@@ -51,6 +51,25 @@ module _ (words : List ℕ) (top k : ℕ) (arena : Arena words top) (h : k < top
       ≡ tree (get_or words (2050 + 4 * k) 0 / 16777216 % 64) (get_or words (2050 + 4 * k) 0 / 4096 % 4096) (get_or words (2050 + 4 * k) 0 % 4096) (trees_at words (get_or words (2048 + 4 * k) 0)) no_trees
   unfolding cell_trees
   trees_tree m = trees_cell words k ∙ rw (le-ltb (get_or words (2050 + 4 * k) 0) mark m, lists_at words k (get_or words (2048 + 4 * k) 0) (arena.first k h))
+
+-- The trees of a list that is not empty, by the words of its cell.
+module _ (words : List ℕ) (list : ℕ) (arena : Arena words list) (some : 0 < list) where
+  at_first : 2048 + 4 * (list - 1) ≡ 2044 + 4 * list
+  at_first = omega arith
+
+  at_second : 2050 + 4 * (list - 1) ≡ 2044 + 4 * list + 2
+  at_second = omega arith
+
+  back : list - 1 + 1 ≡ list
+  back = omega arith
+
+  pub cell_join : get_or words (2044 + 4 * list + 2) 0 < mark → trees_at words (get_or words (2044 + 4 * list) 0) ⋈ trees_at words (get_or words (2044 + 4 * list + 2) 0) ≡ trees_at words list
+  cell_join m = sym ((rw (back, at_first, at_second) at (trees_join words list (list - 1) arena (omega arith))) m)
+
+  pub cell_tree : mark ≤ get_or words (2044 + 4 * list + 2) 0
+      → tree (get_or words (2044 + 4 * list + 2) 0 / 16777216 % 64) (get_or words (2044 + 4 * list + 2) 0 / 4096 % 4096) (get_or words (2044 + 4 * list + 2) 0 % 4096) (trees_at words (get_or words (2044 + 4 * list) 0)) no_trees
+      ≡ trees_at words list
+  cell_tree m = sym ((rw (back, at_first, at_second) at (trees_tree words list (list - 1) arena (omega arith))) m)
 
 -- The words of the cells below top, and those of list 0, are the same.
 abbrev pub SameCells : List ℕ → List ℕ → ℕ → Type 0

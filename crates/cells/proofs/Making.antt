@@ -6,7 +6,9 @@ use native.Mathlib.Omega.{arith}
 use native.Mathlib.Nat.{eq-or-lt_of_le}
 use Prim.Native.Nat.{ℕ, zero, suc, ◌+◌, ◌*◌, ◌/◌, ◌%◌, ◌<◌, ◌≤◌}
 use lib.ListN.{length, get_or}
-use lib.Seq.{sets, length-sets}
+use lib.Seq.{sets, sets-eq, length-sets, take-length}
+use borrow.Rule.Slice.PartMut.{put_mid}
+use Rattle.std.proofs.lemmas.Slice.{put_mid-paste}
 use borrow.Author.Tests.{le-ltb, lt-ltb}
 use Rattle.meaning.specs.Grammar.{Trees, no_trees, tree, ◌⋈◌}
 use Rattle.stored.specs.Stored.{records_of, number_of}
@@ -16,6 +18,10 @@ use Rattle.stored.proofs.Bytes.{records_join, number_join}
 use Rattle.cells.specs.Cells.{saturated, mark, packed, cell_trees, lists, trees_at, records_word, trees_word, with_cell, with_tree, with_join, joined, join_of}
 use Rattle.cells.specs.Arena.{Arena, Made}
 use Rattle.cells.proofs.Frame.{SameCells, trees_none, trees_zero, lists_at, trees_cell, lists_same, trees_same}
+
+-- Words copied to a place, all at once.
+pub put_in_place : (words : List ℕ) (at k : ℕ) (xs copied : List ℕ) → copied ≡ xs → k ≡ length xs → at + length xs ≤ length words → put_mid at k words copied ≡ sets words at xs
+put_in_place words at k xs copied c e h = rw c (put_mid-paste at k words xs xs (length xs) refl (sym e) refl ∙ rw (take-length xs) (sym (sets-eq xs words at h)))
 
 -- A list that is there already.
 pub made_old : (words : List ℕ) (top list : ℕ) (ts : Trees) → Arena words top → list ≤ top → trees_at words list ≡ ts → Made words words top list top ts

@@ -1,221 +1,179 @@
 // One command: it sets the current table or line, or it is a question, answered by a line of numbers.
-use crate::{field, fill, readers};
+use crate::field::Counted;
+use crate::{field, fill};
 use page::Page;
+use reader::Extent;
 
 // The most that a command can set or lend.
-pub(crate) const TABLE: usize = 3_000;
+const TABLE: usize = 3_000;
 
-pub(crate) const LINE: usize = 4_100;
+const LINE: usize = 4_100;
 
-pub(crate) const NUMBERS: usize = 262_144;
+const NUMBERS: usize = 262_144;
 
-pub(crate) const ROOM: usize = 7_168;
+const ROOM: usize = 7_168;
 
-pub(crate) type Table = [u8; TABLE];
+// Why no other command follows.
+#[derive(Clone, Copy, Debug, PartialEq, Eq)]
+pub(crate) enum Stop {
+    Ended,
+    Malformed,
+}
 
-pub(crate) type Line = [u8; LINE];
-
-pub(crate) type Numbers = [u32; NUMBERS];
-
-pub(crate) type Room = [u8; ROOM];
-
-pub(crate) const GOING: u8 = 0;
-
-pub(crate) const ENDED: u8 = 1;
-
-pub(crate) const BAD: u8 = 2;
-
-// How long the current table and the current line are, how much of the page of text is used, and whether the stream goes
-// on.
+// The current table and the current line, a stored reading in question, what a reading is lent, and the page of text.
 #[derive(Drop)]
 pub(crate) struct Desk {
-    pub table: usize,
-    pub line: usize,
-    pub used: usize,
-    pub state: u8,
+    table: Counted<TABLE>,
+    line: Counted<LINE>,
+    stored: Counted<ROOM>,
+    work: [u32; NUMBERS],
+    room: [u8; ROOM],
+    page: Page,
 }
 
-fn stopped(mut desk: Desk, state: u8) -> Desk {
-    desk.state = state;
-    desk
-}
-
-// Numbers with a blank between them, and LF.
-fn put_row(page: &mut Page, used: usize, row: &[u64]) -> usize {
-    let mut at = used;
-    let mut i = 0;
-    while i < row.len() {
-        if i > 0 {
-            at = page::put(page, at, b' ');
-        }
-        at = page::put_number(page, at, row[i]);
-        i += 1;
-    }
-    page::put(page, at, b'\n')
-}
-
-fn answered(page: &mut Page, mut desk: Desk, row: &[u64]) -> Desk {
-    let used = put_row(page, desk.used, row);
-    desk.used = used;
-    desk
-}
-
-fn set_table(table: &mut [u8], mut desk: Desk) -> Desk {
-    let bytes = field::read_counted(table);
-    if !bytes.is_there {
-        return stopped(desk, BAD);
-    }
-    desk.table = bytes.count;
-    desk
-}
-
-fn set_line(line: &mut [u8], mut desk: Desk) -> Desk {
-    let bytes = field::read_counted(line);
-    if !bytes.is_there {
-        return stopped(desk, BAD);
-    }
-    desk.line = bytes.count;
-    desk
-}
-
-fn ask_check(table: &[u8], page: &mut Page, desk: Desk) -> Desk {
-    let row = readers::check(table);
-    answered(page, desk, &row)
-}
-
-fn ask_report(table: &[u8], page: &mut Page, desk: Desk) -> Desk {
-    let row = readers::report(table);
-    answered(page, desk, &row)
-}
-
-// The six numbers of a reading, then the digests of the room and of the working numbers.
-fn reading(
-    whole: bool,
-    table: &[u8],
-    line: &[u8],
+// What a question for a reading says: how much it lends, and what that is filled with.
+#[derive(Clone, Copy)]
+struct Question {
     allowance: u64,
-    work: &mut [u32],
-    room: &mut [u8],
+    numbers: usize,
+    room: usize,
     fill: u8,
-) -> [u64; 8] {
-    fill::numbers(work, fill);
-    fill::bytes(room, fill);
-    let answer = readers::read(whole, table, line, allowance, work, room);
-    [
-        answer[0],
-        answer[1],
-        answer[2],
-        answer[3],
-        answer[4],
-        answer[5],
-        fill::digest_of_bytes(room),
-        fill::digest_of_numbers(work),
-    ]
 }
 
-fn ask_reading(
-    whole: bool,
-    table: &[u8],
-    line: &[u8],
-    work: &mut [u32],
-    room: &mut [u8],
-    page: &mut Page,
-    desk: Desk,
-) -> Desk {
-    let allowance = field::read_number(8);
-    let numbers = field::read_number(4);
-    let bytes = field::read_number(2);
-    // At the stream's end the last field is missing wherever another is.
-    let fill = field::read_letter();
-    if !fill.is_there {
-        return stopped(desk, BAD);
+impl Question {
+    fn read() -> Option<Question> {
+        Some(Question {
+            allowance: field::read_u64()?,
+            numbers: field::read_u32()? as usize,
+            room: usize::from(field::read_u16()?),
+            fill: field::read_letter()?,
+        })
     }
-    let n = numbers.value as usize;
-    if n > work.len() {
-        return stopped(desk, BAD);
-    }
-    let k = bytes.value as usize;
-    if k > room.len() {
-        return stopped(desk, BAD);
-    }
-    let row = reading(
-        whole,
-        table,
-        line,
-        allowance.value,
-        &mut work[..n],
-        &mut room[..k],
-        fill.byte,
-    );
-    answered(page, desk, &row)
-}
 
-fn ask_formed(stored: &mut [u8], page: &mut Page, desk: Desk) -> Desk {
-    let rules = field::read_number(2);
-    let line_length = field::read_number(2);
-    let bytes = field::read_counted(stored);
-    if !bytes.is_there {
-        return stopped(desk, BAD);
-    }
-    let row = readers::well_formed(
-        page::front(stored, bytes.count),
-        rules.value,
-        line_length.value,
-    );
-    answered(page, desk, &row)
-}
-
-fn command(
-    letter: u8,
-    table: &mut Table,
-    line: &mut Line,
-    stored: &mut Room,
-    work: &mut Numbers,
-    room: &mut Room,
-    page: &mut Page,
-    desk: Desk,
-) -> Desk {
-    match letter {
-        b'T' => set_table(table, desk),
-        b'L' => set_line(line, desk),
-        b'K' => ask_check(page::front(table, desk.table), page, desk),
-        b'M' => ask_report(page::front(table, desk.table), page, desk),
-        b'P' => ask_reading(
-            false,
-            page::front(table, desk.table),
-            page::front(line, desk.line),
-            work,
-            room,
-            page,
-            desk,
-        ),
-        b'W' => ask_reading(
-            true,
-            page::front(table, desk.table),
-            page::front(line, desk.line),
-            work,
-            room,
-            page,
-            desk,
-        ),
-        b'F' => ask_formed(stored, page, desk),
-        _ => stopped(desk, BAD),
+    // The six numbers of a reading, then the digests of the room and of the working numbers. None: it lends more than there is.
+    fn answer(
+        self,
+        extent: Extent,
+        table: &[u8],
+        line: &[u8],
+        work: &mut [u32],
+        room: &mut [u8],
+    ) -> Option<[u64; 8]> {
+        if self.numbers > work.len() {
+            return None;
+        }
+        if self.room > room.len() {
+            return None;
+        }
+        let work = &mut work[..self.numbers];
+        let room = &mut room[..self.room];
+        fill::numbers(work, self.fill);
+        fill::bytes(room, self.fill);
+        let answer = reader::read(extent, table, line, self.allowance, work, room);
+        let [code, place, matched, visits, records, furthest] = reader::numbers(answer);
+        Some([
+            code,
+            place,
+            matched,
+            visits,
+            records,
+            furthest,
+            fill::digest(room),
+            fill::digest(work),
+        ])
     }
 }
 
-// Reads one command and does it; the stream ends where no command begins.
-pub(crate) fn turn(
-    table: &mut Table,
-    line: &mut Line,
-    stored: &mut Room,
-    work: &mut Numbers,
-    room: &mut Room,
-    page: &mut Page,
-    desk: Desk,
-) -> Desk {
-    let letter = field::read_letter();
-    if !letter.is_there {
-        return stopped(desk, ENDED);
+impl Desk {
+    pub(crate) fn empty() -> Desk {
+        Desk {
+            table: Counted::empty(),
+            line: Counted::empty(),
+            stored: Counted::empty(),
+            work: [0; NUMBERS],
+            room: [0; ROOM],
+            page: Page::blank(),
+        }
     }
-    command(letter.byte, table, line, stored, work, room, page, desk)
+
+    // Numbers with a blank between them, and LF.
+    fn put_row(&mut self, row: &[u64]) {
+        for (i, number) in row.iter().enumerate() {
+            if i > 0 {
+                self.page.put(b' ');
+            }
+            self.page.put_number(*number);
+        }
+        self.page.put(b'\n');
+    }
+
+    fn ask_check(&mut self) {
+        let row = sheet::numbers(sheet::check(self.table.bytes()));
+        self.put_row(&row);
+    }
+
+    fn ask_report(&mut self) {
+        let row = report::numbers(report::report(self.table.bytes()));
+        self.put_row(&row);
+    }
+
+    fn ask_reading(&mut self, extent: Extent) -> Option<()> {
+        let question = Question::read()?;
+        let row = question.answer(
+            extent,
+            self.table.bytes(),
+            self.line.bytes(),
+            &mut self.work,
+            &mut self.room,
+        )?;
+        self.put_row(&row);
+        Some(())
+    }
+
+    fn ask_formed(&mut self) -> Option<()> {
+        let rules = field::read_u16()?;
+        let line_length = field::read_u16()?;
+        self.stored.read()?;
+        let well_formed = stored::well_formed(
+            self.stored.bytes(),
+            u32::from(rules),
+            u32::from(line_length),
+        );
+        self.put_row(&[u64::from(well_formed)]);
+        Some(())
+    }
+
+    // None: the command is malformed.
+    fn command(&mut self, letter: u8) -> Option<()> {
+        match letter {
+            b'T' => self.table.read(),
+            b'L' => self.line.read(),
+            b'K' => {
+                self.ask_check();
+                Some(())
+            }
+            b'M' => {
+                self.ask_report();
+                Some(())
+            }
+            b'P' => self.ask_reading(Extent::Prefix),
+            b'W' => self.ask_reading(Extent::Whole),
+            b'F' => self.ask_formed(),
+            _ => None,
+        }
+    }
+
+    // Reads one command and does it; the stream ends where no command begins.
+    pub(crate) fn turn(&mut self) -> Result<(), Stop> {
+        let letter = field::read_letter().ok_or(Stop::Ended)?;
+        self.command(letter).ok_or(Stop::Malformed)
+    }
+
+    // Writes out what is left on the page, and BAD of a stream that is malformed.
+    pub(crate) fn finish(&mut self, stop: Stop) {
+        if stop == Stop::Malformed {
+            self.page.put_all(b"BAD\n");
+        }
+        self.page.send();
+    }
 }

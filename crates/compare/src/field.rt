@@ -1,77 +1,59 @@
-// The fields of a command on standard input: letters, big-endian numbers and bytes.
+// The fields of a command on standard input: letters, big-endian numbers and bytes. None: the stream ends before the field does.
 
 const STDIN: i32 = 0;
 
+fn read_bytes<const COUNT: usize>() -> Option<[u8; COUNT]> {
+    let mut bytes = [0u8; COUNT];
+    if io::read_full(STDIN, &mut bytes) == COUNT {
+        Some(bytes)
+    } else {
+        None
+    }
+}
+
+pub(crate) fn read_letter() -> Option<u8> {
+    let [letter] = read_bytes::<1>()?;
+    Some(letter)
+}
+
+pub(crate) fn read_u16() -> Option<u16> {
+    Some(u16::from_be_bytes(read_bytes()?))
+}
+
+pub(crate) fn read_u32() -> Option<u32> {
+    Some(u32::from_be_bytes(read_bytes()?))
+}
+
+pub(crate) fn read_u64() -> Option<u64> {
+    Some(u64::from_be_bytes(read_bytes()?))
+}
+
+// Bytes that stand at the front of a place. An array with its count beside, in one struct: `io::read_full` writes over bytes that are there, at its front.
 #[derive(Drop)]
-pub(crate) struct Letter {
-    pub byte: u8,
-    pub is_there: bool,
+pub(crate) struct Counted<const MOST: usize> {
+    place: [u8; MOST],
+    count: usize,
 }
 
-#[derive(Drop)]
-pub(crate) struct Number {
-    pub value: u64,
-    pub is_there: bool,
-}
-
-// Bytes that stand at the front of a place.
-#[derive(Drop)]
-pub(crate) struct Bytes {
-    pub count: usize,
-    pub is_there: bool,
-}
-
-pub(crate) fn read_letter() -> Letter {
-    let mut bytes = [0u8; 1];
-    let count = io::read_full(STDIN, &mut bytes);
-    Letter {
-        byte: bytes[0],
-        is_there: count == 1,
-    }
-}
-
-fn wide(x: u8) -> u64 {
-    x as u64
-}
-
-fn value(bytes: &[u8]) -> u64 {
-    let mut value = 0;
-    let mut i = 0;
-    while i < bytes.len() {
-        value = (value << 8) | wide(bytes[i]);
-        i += 1;
-    }
-    value
-}
-
-// Whether so many bytes came; they stand at the front of the place.
-fn read_bytes(count: usize, place: &mut [u8]) -> bool {
-    if count > place.len() {
-        return false;
-    }
-    io::read_full(STDIN, &mut place[..count]) == count
-}
-
-// A number of up to eight bytes.
-pub(crate) fn read_number(width: usize) -> Number {
-    let mut bytes = [0u8; 8];
-    let is_there = read_bytes(width, &mut bytes);
-    Number {
-        value: value(page::front(&bytes, width)),
-        is_there,
-    }
-}
-
-// A length of two bytes and so many bytes; more than the place holds count as missing.
-pub(crate) fn read_counted(place: &mut [u8]) -> Bytes {
-    let length = read_number(2);
-    let count = length.value as usize;
-    if !length.is_there {
-        return Bytes {
+impl<const MOST: usize> Counted<MOST> {
+    pub(crate) fn empty() -> Self {
+        Counted {
+            place: [0; MOST],
             count: 0,
-            is_there: false,
-        };
+        }
     }
-    let is_there = read_bytes(count, place);
-    Bytes { count, is_there }
+
+    // A length of two bytes and so many bytes; more than the place holds count as missing.
+    pub(crate) fn read(&mut self) -> Option<()> {
+        let count = usize::from(read_u16()?);
+        if count > MOST || io::read_full(STDIN, &mut self.place[..count]) < count {
+            return None;
+        }
+        self.count = count;
+        Some(())
+    }
+
+    pub(crate) fn bytes(&self) -> &[u8] {
+        page::front(&self.place, self.count)
+    }
 }

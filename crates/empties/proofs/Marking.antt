@@ -3,7 +3,7 @@ use mathlib.Core.Path.{◌≡◌, refl, sym, ap, ap₂, ◌∙◌}
 use mathlib.Core.Bool.{Bool, true, false, ◌&&◌, ◌||◌, or-false, and-true, and-false}
 use mathlib.Core.List.{List}
 use mathlib.Core.Logic.{◌≢◌}
-use Prim.Native.Nat.{ℕ, zero, suc, ◌+◌, ◌≤◌, ◌<◌}
+use Prim.Native.Nat.{ℕ, ◌+◌, ◌≤◌, ◌<◌}
 use native.Mathlib.Omega.{arith}
 use borrow.Author.Tests.{leb-true, le-leb, ltb-true, lt-ltb, le-ltb, eqb-true, eqb-false, eq-eqb, ne_eqb}
 use lib.Dec.{eqb, leb, ltb}
@@ -11,21 +11,8 @@ use lib.ListN.{length}
 use Rattle.bits.specs.Marks.{marked, WithMark}
 use Rattle.bits.proofs.Laws.{has_none}
 use Rattle.meaning.specs.Grammar.{Node, empty, range, rule, seq, choice, not, rep, Grammar, node, Below, Closed}
-use Rattle.layout.specs.Table.{decode}
 use Rattle.empties.specs.Pass.{empty_of, alone, Passed}
 use Rattle.empties.proofs.Gathering.{below_next}
-
--- ---- By the kind.
-pub other_kinds : (e : ℕ → Bool) (known k a b : ℕ) → k ≢ 1 → k ≢ 2 → k ≢ 3 → k ≢ 4 → true ≡ empty_of e known (decode k a b)
-unfolding empty_of
-other_kinds e known zero a b n1 n2 n3 n4 = refl
-other_kinds e known (suc zero) a b n1 n2 n3 n4 = absurd (n1 refl)
-other_kinds e known (suc (suc zero)) a b n1 n2 n3 n4 = absurd (n2 refl)
-other_kinds e known (suc (suc (suc zero))) a b n1 n2 n3 n4 = absurd (n3 refl)
-other_kinds e known (suc (suc (suc (suc zero)))) a b n1 n2 n3 n4 = absurd (n4 refl)
-other_kinds e known (suc (suc (suc (suc (suc zero))))) a b n1 n2 n3 n4 = refl
-other_kinds e known (suc (suc (suc (suc (suc (suc zero)))))) a b n1 n2 n3 n4 = refl
-other_kinds e known (suc (suc (suc (suc (suc (suc (suc k))))))) a b n1 n2 n3 n4 = refl
 
 pub rule_not_alone : (a : ℕ) → false ≡ alone (rule a)
 unfolding empty_of

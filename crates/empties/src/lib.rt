@@ -16,133 +16,106 @@
 //   proofs/Repeat     the passes put together
 #![tactic(auto)]
 
-ghost use Rattle.std.specs.Prelude.{◌≡◌, ◌&&◌, ◌||◌, false, ℕ, ◌<◌, ◌≤◌, length};
+ghost use Rattle.std.specs.Prelude.{◌≡◌, ◌<◌, ◌≤◌, length, unwrap_or};
 ghost use Rattle.bits.specs.Marks.{marked};
-ghost use Rattle.meaning.specs.Grammar.{node, root_of};
-ghost use Rattle.layout.specs.Table.{nodes_of, decode, grammar_of};
-ghost use Rattle.layout.specs.Layout.{Laid, HasNode};
+ghost use Rattle.meaning.specs.Grammar.{root_of};
+ghost use Rattle.layout.specs.Table.{nodes_of, most_nodes, most_rules, grammar_of};
+ghost use Rattle.layout.specs.Layout.{Laid};
+ghost use Rattle.layout.specs.Nodes.{meaning_of, Bounds};
 ghost use Rattle.layout.specs.Survey.{FirstOf};
 ghost use Rattle.empties.specs.Empties.{EmptyRules, EmptyNodes, Unmarked};
 ghost use Rattle.empties.specs.Pass.{empty_of, alone, alone_in, Passed, Gathered};
 
-// Whether a node of this kind is empty by itself.
-fn by_itself(kind: usize) -> bool
-    ensures { (a b : ℕ) → result ≡ alone (decode kind a b) }
+use bits::WORDS;
+use layout::{Node, Table};
+
+// Whether a node is empty by itself.
+#[tactic(auto, using(crate::proofs::Marking::rule_not_alone), unfolding(crate::specs::Pass::empty_of))]
+fn by_itself(node: Node) -> bool
+    ensures { result ≡ alone (meaning_of node) }
 {
-    match kind {
-        1 => false,
-        2 => false,
-        3 => false,
-        4 => false,
-        _ => true,
-    }
+    matches!(node, Node::Empty | Node::Not(_) | Node::Repetition(_))
 }
 
-// The first node that is empty by itself, n if there is none.
-fn first_empty(table: &[u8], n: usize) -> usize
-    requires { Laid table.now × (n ≡ nodes_of table.now) }
-    ensures { FirstOf (alone_in (grammar_of table.now)) 0 n result }
+// The first node that is empty by itself.
+fn first_empty(table: &Table) -> Option<usize>
+    ensures { FirstOf (alone_in (grammar_of table.now.bytes.now)) 0 (nodes_of table.now.bytes.now) (unwrap_or result (nodes_of table.now.bytes.now)) }
 {
-    let first = layout::first_node(table);
-    let mut i: usize = 0;
-    while i < n {
-        if by_itself(layout::kind_from(table, first, i)) {
-            return i;
+    for i in 0..table.node_count() {
+        if by_itself(table.node(i)) {
+            return Some(i);
         }
-        i += 1;
     }
-    n
+    None
 }
 
-fn both(p: bool, q: bool) -> bool
-    ensures { result ≡ (p && q) }
+// Whether a node may be empty, by the marks of its children and by the rules that are known to be empty.
+#[tactic(auto, unfolding(crate::specs::Pass::empty_of))]
+fn may_be_empty(marks: &[u64; WORDS], known: u64, node: Node) -> bool
+    requires { Bounds most_rules most_nodes (meaning_of node) }
+    ensures { result ≡ empty_of (marked marks.now) known (meaning_of node) }
 {
-    if p { q } else { false }
-}
-
-fn either(p: bool, q: bool) -> bool
-    ensures { result ≡ (p || q) }
-{
-    if p { true } else { q }
-}
-
-// Whether node i may be empty, by the marks of its children and by the rules that are known to be empty.
-fn may_be_empty(table: &[u8], first: usize, marks: &[u64; 8], known: u64, i: usize) -> bool
-    requires { HasNode table.now first i }
-    ensures { result ≡ empty_of (marked marks.now) known (node (grammar_of table.now) i) }
-{
-    let a = layout::field_a_from(table, first, i);
-    let b = layout::field_b_from(table, first, i);
-    match layout::kind_from(table, first, i) {
-        1 => false,
-        2 => bits::has_rule(known, a),
-        3 => both(bits::marked(marks, a), bits::marked(marks, b)),
-        4 => either(bits::marked(marks, a), bits::marked(marks, b)),
-        _ => true,
+    match node {
+        Node::Empty | Node::Not(_) | Node::Repetition(_) => true,
+        Node::Range(_, _) => false,
+        Node::Rule(rule) => bits::has_rule(known, rule),
+        Node::Sequence(a, b) => bits::marked(marks, a) && bits::marked(marks, b),
+        Node::Choice(a, b) => bits::marked(marks, a) || bits::marked(marks, b),
     }
 }
 
 // One pass over the nodes, from one on.
-fn pass(table: &[u8], marks: &mut [u64; 8], known: u64, from: usize)
-    requires { Laid table.now × (length marks.old ≡ 8) × (from ≤ nodes_of table.now) }
-    ensures { Passed (grammar_of table.now) known from (nodes_of table.now) marks.old marks.new }
+fn pass(table: &Table, marks: &mut [u64; WORDS], known: u64, from: usize)
+    requires { (length marks.old ≡ 8) × (from ≤ nodes_of table.now.bytes.now) }
+    ensures { Passed (grammar_of table.now.bytes.now) known from (nodes_of table.now.bytes.now) marks.old marks.new }
 {
-    let n = layout::node_count(table);
-    let first = layout::first_node(table);
-    let mut i = from;
-    while i < n {
-        if may_be_empty(table, first, marks, known, i) {
+    for i in from..table.node_count() {
+        if may_be_empty(marks, known, table.node(i)) {
             bits::mark(marks, i);
         }
-        i += 1;
     }
 }
 
 // The rules known to be empty, with those whose root is marked.
-fn gather(table: &[u8], marks: &[u64; 8], known: u64) -> u64
-    requires { Laid table.now }
-    ensures { Gathered (λ a. marked marks.now (root_of (grammar_of table.now) a)) known (length (grammar_of table.now).roots) result × (known ≤ result) }
+fn gather(table: &Table, marks: &[u64; WORDS], known: u64) -> u64
+    ensures { Gathered (λ a. marked marks.now (root_of (grammar_of table.now.bytes.now) a)) known (length (grammar_of table.now.bytes.now).roots) result × (known ≤ result) }
 {
-    let r = layout::rule_count(table);
     let mut more = known;
-    let mut a: usize = 0;
-    while a < r {
-        if bits::marked(marks, layout::root(table, a)) {
+    for a in 0..table.rule_count() {
+        if bits::marked(marks, table.root(a)) {
             more = bits::add_rule(more, a);
         }
-        a += 1;
     }
     more
 }
 
 // Passes from one node on, and from the first one again as long as each adds a rule.
-fn passes(table: &[u8], marks: &mut [u64; 8], first: usize) -> u64
-    requires { Laid table.now × Unmarked marks.old × FirstOf (alone_in (grammar_of table.now)) 0 (nodes_of table.now) first }
-    ensures { EmptyRules (grammar_of table.now) result × EmptyNodes (grammar_of table.now) marks.new }
+// This loop until nothing is added and report's `reachable_rules` stay two: a closure for one turn would carry what each keeps, here `from` and the marks.
+fn passes(table: &Table, marks: &mut [u64; WORDS], first: usize) -> u64
+    requires { Unmarked marks.old × FirstOf (alone_in (grammar_of table.now.bytes.now)) 0 (nodes_of table.now.bytes.now) first }
+    ensures { EmptyRules (grammar_of table.now.bytes.now) result × EmptyNodes (grammar_of table.now.bytes.now) marks.new }
 {
     let mut known: u64 = 0;
     let mut from = first;
-    let found = loop {
+    loop {
         pass(table, marks, known, from);
         let more = gather(table, marks, known);
         if more == known {
-            break known;
+            return known;
         }
         known = more;
         from = 0;
-    };
-    found
+    }
 }
 
 // The rules whose root may be empty; every node that may be is marked.
-pub fn mark_empties(table: &[u8], marks: &mut [u64; 8]) -> u64
+pub fn mark_empties(table: &[u8], marks: &mut [u64; WORDS]) -> u64
     requires { Laid table.now × Unmarked marks.old }
     ensures { EmptyRules (grammar_of table.now) result × EmptyNodes (grammar_of table.now) marks.new }
 {
-    let n = layout::node_count(table);
-    let first = first_empty(table, n);
-    if first == n {
-        return 0;
+    let table = Table::of(table);
+    match first_empty(&table) {
+        Some(first) => passes(&table, marks, first),
+        None => 0,
     }
-    passes(table, marks, first)
 }

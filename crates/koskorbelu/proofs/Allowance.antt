@@ -12,8 +12,7 @@ use Rattle.meaning.specs.Decide.{left_recursive, is_free}
 use Rattle.meaning.specs.Reading.{State, made, Run, Way, way_of, read}
 use Rattle.meaning.proofs.Choose.{by_test_twice}
 use Rattle.stored.specs.Stored.{records_of, stored_length}
-use Rattle.reader.specs.declared.Reading.{Reading}
-use Rattle.reader.specs.Answer.{EFFORT, DEEP, most_records, Outcome, match_outcome}
+use Rattle.reader.specs.Answer.{EFFORT, DEEP, most_records, Numbers, Outcome, match_outcome}
 use Rattle.koskorbelu.specs.Demands.{Call, back, code, visits, grammar, run, version, ended, Came, effort, deep, done, Taken, taken, Answers}
 use Rattle.koskorbelu.proofs.Demand1.{told, by_answer, gives, came}
 use Rattle.koskorbelu.proofs.Steady.{done_always, deep_always, larger, fewer}
@@ -89,4 +88,4 @@ module _ (c : Call) (t : Taken c) (a : ℕ) (w : List ℕ) (t' : Taken (allowing
   effort_exactly h = ((λ e. let few : ¬ (visits (back c) ≤ a) = not_enough e in omega arith), effort_below h)
     where
       not_enough : code (back (allowing c a w)) ≡ EFFORT → visits (back c) ≤ a → ⊥
-      not_enough e le = not_answering (subst Answers (ap (λ (r : Reading). r.code) (read_alike h le).reading ∙ e) h) (omega arith)
+      not_enough e le = not_answering (subst Answers (ap (λ (r : Numbers). r.code) (read_alike h le).reading ∙ e) h) (omega arith)

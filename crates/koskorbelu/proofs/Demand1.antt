@@ -4,6 +4,7 @@ use mathlib.Core.Logic.Iff
 use mathlib.Core.Logic.{◌↔◌, ◌≢◌, ◌⊎◌, inl, inr}
 use mathlib.Core.Bool.{true, ◌&&◌, ◌||◌}
 use mathlib.Core.List.{List}
+use Rattle.std.proofs.Common.{Result}
 use mathlib.Mathlib.Data.Bool.Basic.{or-eq-false-eq-eq-false-and-eq-false}
 use Prim.Native.Nat.{ℕ, ◌<◌, ◌≤◌}
 use native.Mathlib.Omega.{arith}
@@ -13,7 +14,7 @@ use lib.ListN.{length}
 use Rattle.meaning.specs.Grammar.{Trees, Answer, fail, ok}
 use Rattle.meaning.specs.Reading.{State, made, Run}
 use Rattle.meaning.proofs.Choose.{by_test, or_split}
-use Rattle.layout.specs.declared.Verdict.{Verdict}
+use Rattle.layout.specs.Layout.{Verdict}
 use Rattle.layout.specs.Layout.{READ, verdict}
 use Rattle.sheet.specs.Check.{LOOP, check_of, Accepted}
 use Rattle.sheet.specs.Given as sheet
@@ -21,8 +22,10 @@ use Rattle.sheet.specs.Given.{WellFormed}
 use Rattle.sheet.proofs.Exact as exact
 use Rattle.layout.proofs.Tests.{ltb_iff, both, failed-iff}
 use Rattle.stored.specs.Stored.{records_of, stored_length}
-use Rattle.reader.specs.Answer.{FAIL, longest_line, most_allowance, most_records, Outcome, cleared, match_outcome, run_outcome, reading_of, Leaves}
+use Rattle.reader.specs.Answer.{FAIL, longest_line, most_allowance, most_records, Numbers, Outcome, cleared, match_outcome, run_outcome, reading_of, numbers_of, Leaves}
 use Rattle.reader.specs.declared.Reading.{Reading}
+use Rattle.reader.specs.declared.Refusal.{Refusal}
+use Rattle.reader.proofs.Exact.{one_result}
 use Rattle.koskorbelu.specs.Demands.{Call, back, code, run, needed, version, ended, EndsBefore, Ended, fails, rest, records, room, reads, Came, effort, deep, done, Taken, Given, check, line}
 use Rattle.koskorbelu.specs.Demands.{allow, work, taken, Demand1}
 
@@ -137,5 +140,9 @@ module _ (c : Call) where
   demand_1 = record { named = small given; given = given; only = λ o h. sym (gives h) }
 
   -- What two calls with the same input return and leave is the same.
-  pub second_call : {r r' : Reading} {w w' m m' : List ℕ} → Leaves (back c) r w m → Leaves (back c) r' w' m' → (r ≡ r') × (w ≡ w') × (m ≡ m')
+  pub second_call : {r r' : Numbers} {w w' m m' : List ℕ} → Leaves (back c) r w m → Leaves (back c) r' w' m' → (r ≡ r') × (w ≡ w') × (m ≡ m')
   second_call h k = (h.returned ∙ sym k.returned, h.working ∙ sym k.working, h.stored ∙ sym k.stored)
+
+  -- So their results are the same: the numbers are those of one result alone.
+  pub second_result : {x x' : Result Reading Refusal} {w w' m m' : List ℕ} → Leaves (back c) (numbers_of x) w m → Leaves (back c) (numbers_of x') w' m' → (x ≡ x') × (w ≡ w') × (m ≡ m')
+  second_result {x} {x'} h k = let same = second_call h k in (one_result x x' same.0, same.1, same.2)

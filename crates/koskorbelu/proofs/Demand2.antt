@@ -18,7 +18,7 @@ use Rattle.meaning.proofs.Claims.{Only}
 use Rattle.meaning.proofs.Older.{EndsSo}
 use Rattle.meaning.proofs.OneBounded.{one_reading}
 use Rattle.meaning.proofs.Complete.{read_complete}
-use Rattle.layout.specs.declared.Verdict.{Verdict}
+use Rattle.layout.specs.Layout.{Verdict}
 use Rattle.layout.specs.Layout.{READ, FIELD}
 use Rattle.layout.proofs.Exact.{laid_iff}
 use Rattle.layout.proofs.Laying.{closed, rule_count}

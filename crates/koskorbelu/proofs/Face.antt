@@ -10,21 +10,14 @@ use Rattle.bits.specs.Mask.{one}
 use Rattle.bits.proofs.Laws.{has_none}
 use Rattle.meaning.specs.Report.{LeftRecursive, Free}
 use Rattle.meaning.proofs.Reached.{free_of_all}
-use Rattle.layout.specs.declared.Verdict.{Verdict}
 use Rattle.layout.specs.Table.{grammar_of}
 use Rattle.sheet.specs.Given.{WellFormed}
-use Rattle.sheet.specs.Check.{check_of}
 use Rattle.sheet.proofs.Exact.{accepted_iff}
 use Rattle.report.proofs.Once.{one_report}
-use Rattle.reader.specs.declared.Reading.{Reading}
-use Rattle.reader.specs.Answer.{Outcome, Leaves}
-use Rattle.koskorbelu.specs.Face.{check_numbers, report_numbers, read_numbers, LeavesReport, LeavesReading}
+use Rattle.reader.specs.Answer.{Numbers, Outcome, Leaves}
+use Rattle.koskorbelu.specs.Face.{report_numbers, read_numbers, LeavesReport, LeavesReading}
 
-pub check_written : (table : List ℕ) (v : Verdict) → v ≡ check_of table → v.code ∷ v.place ∷ [] ≡ check_numbers table
-unfolding check_numbers
-check_written table v e = ap (λ (w : Verdict). w.code ∷ w.place ∷ []) e
-
-pub read_written : (o : Outcome) (r : Reading) (work room : List ℕ) → Leaves o r work room → LeavesReading o (r.code ∷ r.place ∷ r.matched ∷ r.visits ∷ r.records ∷ r.furthest ∷ []) work room
+pub read_written : (o : Outcome) (r : Numbers) (work room : List ℕ) → Leaves o r work room → LeavesReading o (r.code ∷ r.place ∷ r.matched ∷ r.visits ∷ r.records ∷ r.furthest ∷ []) work room
 unfolding read_numbers
 read_written o r work room h = record { written = ap read_numbers h.returned; working = h.working; stored = h.stored }
 

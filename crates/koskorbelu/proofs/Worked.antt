@@ -22,8 +22,7 @@ use Rattle.layout.proofs.Worked.{tableA, tableB, table_unused}
 use Rattle.stored.specs.Version.{version_of}
 use Rattle.stored.specs.Stored.{records_of, number_of, in_bytes, record_bytes, trees_bytes, stored_length, head_bytes, stored_of}
 use Rattle.stored.proofs.Bytes.{length_stored}
-use Rattle.reader.specs.declared.Reading.{Reading}
-use Rattle.reader.specs.Answer.{EFFORT, DEEP, FAIL, REST, RECORDS, most_records, longest_line, most_allowance, Outcome, numbers, cleared, match_outcome, run_outcome}
+use Rattle.reader.specs.Answer.{EFFORT, DEEP, FAIL, REST, RECORDS, most_records, longest_line, most_allowance, Numbers, Outcome, numbers, cleared, match_outcome, run_outcome}
 use Rattle.koskorbelu.specs.Demands.{Call, back, run, needed, Taken}
 use Rattle.koskorbelu.proofs.Demand1.{by_run}
 
@@ -33,7 +32,7 @@ pub record Line : Type 0 where
   pub table : List ℕ
   pub line : List ℕ
   pub allowance : ℕ
-  pub numbers : Reading
+  pub numbers : Numbers
   pub stored : List ℕ
 
 abbrev pub call : Line → (work room : List ℕ) → Call
@@ -83,7 +82,7 @@ abbrev pub twice : (k a : ℕ) → List ℕ
 twice zero a = a ∷ 0 ∷ 0 ∷ 0 ∷ 0 ∷ []
 twice (suc k) a = twice k (suc a) ++ (twice k (suc a) ++ (a ∷ 0 ∷ 0 ∷ 0 ∷ 2 ∷ []))
 
-abbrev case : (whole : Bool) (table line : List ℕ) (allowance : ℕ) → Reading → (stored : List ℕ) → Line
+abbrev case : (whole : Bool) (table line : List ℕ) (allowance : ℕ) → Numbers → (stored : List ℕ) → Line
 case whole table line allowance numbers stored = record { whole = whole; table = table; line = line; allowance = allowance; numbers = numbers; stored = stored }
 
 -- B on `1,5`.
@@ -121,10 +120,10 @@ worked =
 -- ---- The claim, from what computes.
 -- What comes back, and what is stored, where the room is large enough.
 pub record Stored : Type 0 where
-  pub numbers : Reading
+  pub numbers : Numbers
   pub bytes : List ℕ
 
-abbrev only : Reading → Stored
+abbrev only : Numbers → Stored
 only r = record { numbers = r; bytes = [] }
 
 unfoldable matched : (whole : Bool) (long e : ℕ) → Trees → (visits furthest : ℕ) → Stored

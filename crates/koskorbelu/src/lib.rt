@@ -24,33 +24,26 @@ ghost use Rattle.reader.specs.Answer.{reading_of};
 ghost use Rattle.koskorbelu.specs.Face.{check_numbers, LeavesReport, LeavesReading};
 
 // Whether the table is a sheet: code, place.
+#[tactic(auto, unfolding(crate::specs::Face::check_numbers))]
 #[unsafe(no_mangle)]
 pub extern "C" fn kos_check(table: &[u8], answer: &mut [u64; 2])
     ensures { answer.new ≡ check_numbers table.now }
 {
-    let v = sheet::check(table);
-    *answer = [v.code as u64, v.place as u64];
+    *answer = sheet::numbers(sheet::check(table));
 }
 
-// The report on a table: code, place, the rules that may be empty, the left-recursive ones, how many of them, the lowest, and 1 if the sheet is free.
+// The report on a table: code, place, the rules that may be empty, the left-recursive ones, how many of them, the lowest
+// (64 if there is none), and 1 if the sheet is free.
 #[unsafe(no_mangle)]
 pub extern "C" fn kos_report(table: &[u8], answer: &mut [u64; 7])
     ensures { LeavesReport table.now answer.new }
 {
-    let x = report::report(table);
-    *answer = [
-        x.code as u64,
-        x.place as u64,
-        x.may_be_empty,
-        x.left_recursive,
-        x.how_many as u64,
-        x.lowest as u64,
-        x.free as u64,
-    ];
+    *answer = report::numbers(report::report(table));
 }
 
 // How far the sheet matches from a line's beginning: code, place, matched, visits, records, furthest; on READ the tree is
 // stored in the room.
+#[tactic(auto, using(crate::proofs::Face::read_written))]
 #[unsafe(no_mangle)]
 pub extern "C" fn kos_read_prefix(
     table: &[u8],
@@ -62,11 +55,11 @@ pub extern "C" fn kos_read_prefix(
 )
     ensures { LeavesReading (reading_of false table.now line.now allowance work.old room.old) answer.new work.new room.new }
 {
-    let r = reader::read_prefix(table, line, allowance, work, room);
-    *answer = [r.code, r.place, r.matched, r.visits, r.records, r.furthest];
+    *answer = reader::numbers(reader::read_prefix(table, line, allowance, work, room));
 }
 
 // The same, where the whole line has to match.
+#[tactic(auto, using(crate::proofs::Face::read_written))]
 #[unsafe(no_mangle)]
 pub extern "C" fn kos_read_whole(
     table: &[u8],
@@ -78,6 +71,5 @@ pub extern "C" fn kos_read_whole(
 )
     ensures { LeavesReading (reading_of true table.now line.now allowance work.old room.old) answer.new work.new room.new }
 {
-    let r = reader::read_whole(table, line, allowance, work, room);
-    *answer = [r.code, r.place, r.matched, r.visits, r.records, r.furthest];
+    *answer = reader::numbers(reader::read_whole(table, line, allowance, work, room));
 }

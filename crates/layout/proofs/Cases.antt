@@ -9,9 +9,8 @@ use native.Mathlib.Omega.{arith}
 use borrow.Author.Tests.{leb-true, leb-false, eqb-true, eqb-false, ne_eqb}
 use lib.Dec.{leb, eqb}
 use Rattle.meaning.proofs.Choose.{by_test}
-use Rattle.layout.specs.declared.Verdict.{Verdict}
 use Rattle.layout.specs.Table.{kind_of, Fits, NodeFits}
-use Rattle.layout.specs.Layout.{READ, KIND, FIELD, verdict, unless, ◌or_else◌, first_fault, fields_fit, fault_of, node_fault}
+use Rattle.layout.specs.Layout.{Verdict, READ, KIND, FIELD, verdict, unless, ◌or_else◌, first_fault, fields_fit, fault_of, node_fault}
 use Rattle.layout.proofs.Tests.{failed-iff, fits_iff, kind_fits}
 
 pub row_cases : (P : Verdict → Type 0) (b : Bool) (code : ℕ) (w : Verdict) → (b ≡ false → P (verdict (suc code) 0)) → (b ≡ true → P w) → P (unless b (suc code) or_else w)

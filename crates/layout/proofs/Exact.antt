@@ -7,9 +7,8 @@ use native.Mathlib.Omega.{arith}
 use borrow.Author.Tests.{leb-true, leb-false, eqb-true, eqb-false}
 use lib.Dec.{leb, eqb}
 use lib.ListN.{length}
-use Rattle.layout.specs.declared.Verdict.{Verdict}
 use Rattle.layout.specs.Table.{byte_at, length_of, nodes_of, most_nodes, rules_of, root_of, formula, WellLaid}
-use Rattle.layout.specs.Layout.{READ, FIELD, verdict, ◌or_else◌, first_fault, counts_fit, all_equal, root_fault, node_fault, layout_of, Laid}
+use Rattle.layout.specs.Layout.{Verdict, READ, FIELD, verdict, ◌or_else◌, first_fault, counts_fit, all_equal, root_fault, node_fault, layout_of, Laid}
 use Rattle.layout.specs.Given.{HeaderFits, RootsFit, NodesFit, Given, short, version, count, lengths, root, kind, field, read}
 use Rattle.layout.proofs.Laws.{root_refused, says_short, says_version, says_count, says_length, says_rest}
 use Rattle.layout.proofs.Tests.{failed-iff, counts_iff, all_equal_iff, root_iff, kind_fits}

@@ -1,7 +1,7 @@
 -- Laws of the check's definitions: a search place by place, and the answer of each row of 01's table of codes.
-use mathlib.Core.Path.{◌≡◌, ap, ◌∙◌}
+use mathlib.Core.Path.{◌≡◌, refl, ap, ◌∙◌}
 use mathlib.Core.Logic.{◌≢◌}
-use mathlib.Core.Bool.{Bool, true, false, cond, ◌&&◌}
+use mathlib.Core.Bool.{Bool, true, false, cond, and-false}
 use mathlib.Core.List.{List}
 use Prim.Native.Nat.{ℕ, zero, suc, ◌+◌, ◌-◌, ◌≤◌, ◌<◌}
 use native.Mathlib.Numerals.{add-one, unary_clauses}
@@ -44,12 +44,26 @@ module _ (t : List ℕ) (a root : ℕ) (e : root ≡ root_of t a) where
 
 -- ---- What the code's tests say of the table.
 module _ (t : List ℕ) (n r : ℕ) (en : n ≡ nodes_of t) (er : r ≡ rules_of t) where
-  pub counts_said : (x y z : Bool) → x ≡ in_range n most_nodes → y ≡ in_range r most_rules → z ≡ (x && y) → z ≡ counts_fit (nodes_of t) (rules_of t)
-  counts_said x y z ex ey ez = rw (← en, ← er, ← ex, ← ey) ez
+  pub counts_in : in_range n most_nodes ≡ true → in_range r most_rules ≡ true → counts_fit (nodes_of t) (rules_of t) ≡ true
+  counts_in p q = rw (← en, ← er, p) q
 
-  pub lengths_said : (said : ℕ) (z : Bool) → said ≡ length_of t → z ≡ all_equal (length t) said (node_at r n) → z ≡ all_equal (length t) (length_of t) (formula t)
-  unfolding formula
-  lengths_said said z es ez = rw (← en, ← er, ← es) ez
+  pub nodes_out : in_range n most_nodes ≡ false → counts_fit (nodes_of t) (rules_of t) ≡ false
+  nodes_out p = rw (← en, p) refl
+
+  pub rules_out : in_range r most_rules ≡ false → counts_fit (nodes_of t) (rules_of t) ≡ false
+  rules_out q = rw (← er, q) (and-false _)
+
+  module _ (said : ℕ) (es : said ≡ length_of t) where
+    pub lengths_agree : length t ≡ said → length t ≡ node_at r n → all_equal (length t) (length_of t) (formula t) ≡ true
+    unfolding formula
+    lengths_agree p q = rw (← en, ← er, ← es, eq-eqb _ _ p) (eq-eqb _ _ q)
+
+    pub said_differs : length t ≢ said → all_equal (length t) (length_of t) (formula t) ≡ false
+    said_differs p = rw (← es, ne_eqb _ _ p) refl
+
+    pub formula_differs : length t ≢ node_at r n → all_equal (length t) (length_of t) (formula t) ≡ false
+    unfolding formula
+    formula_differs q = rw (← en, ← er, ne_eqb _ _ q) (and-false _)
 
 -- ---- The answer of each row, where the rows before it have nothing to refuse.
 module _ (t : List ℕ) where

@@ -8,16 +8,22 @@ use native.Mathlib.Omega.{arith}
 use lib.ListN.{length, get_or}
 use Rattle.meaning.specs.Grammar as grammar
 use Rattle.meaning.specs.Grammar.{Node, empty, range, rule, seq, choice, not, rep, Grammar, node, Below, Closed}
-use Rattle.layout.specs.declared.Verdict.{Verdict}
 use Rattle.layout.specs.Table.{nodes_of, most_nodes, rules_of, most_rules, root_of, node_at, formula, kind_of, field_of, a_of, b_of, WellLaid, decode, node_of, each, grammar_of}
 use Rattle.layout.specs.Table.{Fits, is_empty, is_range, is_rule, is_sequence, is_choice, is_not, is_repetition}
-use Rattle.layout.specs.Layout.{READ, layout_of, Laid}
+use Rattle.layout.specs.declared.Node as code
+use Rattle.layout.specs.Nodes.{meaning_of, IsNode}
+pub use Rattle.layout.specs.Nodes.{Bounds}
+use Rattle.layout.specs.Layout.{Verdict, READ, layout_of, Laid}
 use Rattle.layout.proofs.Exact.{laid_iff}
 
 -- What a caller of the check has where the code is READ.
 pub laid_by : (t : List ℕ) (v : Verdict) → v ≡ layout_of t → v.code ≡ READ → Laid t
 unfolding Laid
 laid_by t v e h = ap (λ (w : Verdict). w.code) (sym e) ∙ h
+
+-- What a caller has who has a table that is laid out well: its field laid.
+pub laid : (t : List ℕ) → (layout_of t).code ≡ READ → Laid t
+laid t = laid_by t (layout_of t) refl
 
 pub well_laid : (t : List ℕ) → Laid t → WellLaid t
 well_laid t = (laid_iff t).0
@@ -79,16 +85,6 @@ module _ (t : List ℕ) where
   unfolding node_of
   node_as i h kind e = node_is i h ∙ ap (λ (k : ℕ). decode k (a_of t i) (b_of t i)) e
 
--- What node i may have for fields, in a table of r rules.
-abbrev pub Bounds : (r i : ℕ) → Node → Type 0
-Bounds r i empty = Unit {0}
-Bounds r i (range a b) = (a ≤ b) × (b ≤ 255)
-Bounds r i (rule a) = a < r
-Bounds r i (seq a b) = (a < i) × (b < i)
-Bounds r i (choice a b) = (a < i) × (b < i)
-Bounds r i (not a) = a < i
-Bounds r i (rep a) = a < i
-
 bounded : {r i kind a b : ℕ} → Fits r i kind a b → Bounds r i (decode kind a b)
 bounded is_empty = tt
 bounded (is_range h l) = (h, l)
@@ -129,3 +125,29 @@ module _ (t : List ℕ) (laid : Laid t) where
 pub of_kind : (t : List ℕ) (i kind a b : ℕ) → i < nodes_of t → kind ≡ kind_of t i → a ≡ a_of t i → b ≡ b_of t i
     → (k : ℕ) → kind ≡ k → node (grammar_of t) i ≡ decode k a b
 of_kind t i kind a b h is-kind is-a is_b k e = rw (is-a, is_b) (node_as t i h k (sym is-kind ∙ e))
+
+wider : (r i r' i' : ℕ) → r ≤ r' → i ≤ i' → (n : Node) → Bounds r i n → Bounds r' i' n
+wider r i r' i' h l empty b = tt
+wider r i r' i' h l (range lowest highest) b = b
+wider r i r' i' h l (rule a) b = omega arith
+wider r i r' i' h l (seq a c) b = (omega arith, omega arith)
+wider r i r' i' h l (choice a c) b = (omega arith, omega arith)
+wider r i r' i' h l (not a) b = omega arith
+wider r i r' i' h l (rep a) b = omega arith
+
+-- The node of the code that is made of these numbers is the table's.
+pub is_node : (t : List ℕ) → Laid t → (i kind a b : ℕ) → i < nodes_of t → kind ≡ kind_of t i → a ≡ a_of t i → b ≡ b_of t i
+    → (n : code.Node) → meaning_of n ≡ decode kind a b → IsNode t i n
+unfolding node_of
+is_node t laid i kind a b h is-kind is-a is-b n e =
+    let w = well_laid t laid in
+    let same : meaning_of n ≡ node_of t i = rw (← is-kind, ← is-a, ← is-b) e in
+    record {
+      node = same;
+      fields = rw same (bounded (w.fields i h));
+      small = rw same (wider _ _ _ _ w.few_rules (omega arith) _ (bounded (w.fields i h)));
+    }
+
+-- It is the grammar's node i.
+pub node_meant : (t : List ℕ) (i : ℕ) (n : code.Node) → i < nodes_of t → IsNode t i n → meaning_of n ≡ node (grammar_of t) i
+node_meant t i n h is = is.node ∙ sym (node_is t i h)

@@ -1,22 +1,34 @@
 -- What a search over the nodes stops at: a fault or a repetition, and nothing else.
 use mathlib.Core.Path.{◌≡◌, refl, sym, ap, ◌∙◌}
 use mathlib.Core.Logic.{◌≢◌}
-use mathlib.Core.Bool.{Bool, true, false, ◌&&◌, cond, and-eq-true_iff, false≢true}
+use mathlib.Core.Bool.{Bool, true, false, ◌&&◌, cond, and-true, and-false, and-eq-true_iff, false≢true}
 use mathlib.Core.List.{List}
-use Prim.Native.Nat.{ℕ, zero, suc, ◌-◌, ◌≤◌, ◌<◌}
+use Prim.Native.Nat.{ℕ, zero, suc, ◌+◌, ◌-◌, ◌≤◌, ◌<◌}
 use native.Mathlib.Numerals.{add-one}
 use native.Mathlib.Omega.{arith}
-use borrow.Author.Tests.{lt-leb, eqb-true, eqb-false, eq-eqb, ne_eqb}
-use lib.Dec.{leb, ltb, eqb}
+use borrow.Author.Tests.{lt-leb, le-leb, eqb-true, eqb-false, eq-eqb, ne_eqb}
+use lib.Dec.{leb, eqb}
+use Rattle.std.specs.Prelude.{Result, Ok, Err}
+use Rattle.std.specs.Result.{result_unwrap_or}
 use Rattle.meaning.proofs.Choose.{by_test}
-use Rattle.layout.specs.declared.Verdict.{Verdict}
-use Rattle.layout.specs.declared.Survey.{Survey}
-use Rattle.layout.specs.Table.{nodes_of, rules_of, kind_of, a_of, b_of}
-use Rattle.layout.specs.Layout.{READ, KIND, FIELD, verdict, ◌or_else◌, first_fault, root_fault, fields_fit, fault_of, node_fault, layout_of, Laid}
-use Rattle.layout.specs.Survey.{REPETITION, stop_of, node_stop, stops, is_repetition, FirstOf, Surveyed}
+use Rattle.layout.specs.declared.Refusal.{Refusal}
+use Rattle.layout.specs.declared.Refusal.TheVariants.{Short, Version, Count, Length, Root, Kind, Field}
+use Rattle.layout.specs.Table.{byte_at, pair_at, nodes_of, rules_of, node_at, kind_of, field_of, a_of, b_of}
+use Rattle.layout.specs.Layout.{Verdict, verdict_of, code_of, READ, SHORT, VERSION, COUNT, LENGTH, ROOT, KIND, FIELD, verdict, ◌or_else◌, first_fault, root_fault, fields_fit, fault_of, node_fault, layout_of, Laid}
+use Rattle.layout.specs.Survey.{Survey, REPETITION, stop_of, node_stop, stops, StopsAt, NodesSaid, survey_of, is_repetition, FirstOf, Surveyed}
 use Rattle.layout.proofs.Laws.{first_begun, first_pass}
 use Rattle.layout.proofs.Cases.{search_cases}
 use Rattle.layout.proofs.First.{one_first}
+
+-- A refusal has a code other than READ.
+pub refuses : (e : Refusal) → code_of e ≢ READ
+refuses Short z = absurd (omega arith)
+refuses Version z = absurd (omega arith)
+refuses Count z = absurd (omega arith)
+refuses Length z = absurd (omega arith)
+refuses (Root a) z = absurd (omega arith)
+refuses (Kind i) z = absurd (omega arith)
+refuses (Field i) z = absurd (omega arith)
 
 -- A node that fits has no fault, and no fault is REPETITION.
 no_fault : (r i kind a b : ℕ) → kind ≡ 6 → fields_fit r i kind a b ≡ true → fault_of r i kind a b ≡ READ
@@ -33,19 +45,19 @@ fault_small r i kind a b =
     by_test (λ x. x ≤ FIELD) (leb kind 6) (cond (fields_fit r i kind a b) READ FIELD) KIND
     (λ q. by_test (λ x. x ≤ FIELD) (fields_fit r i kind a b) READ FIELD (λ p. omega arith) (λ p. omega arith)) (λ q. omega arith)
 
--- At a repetition a search stops, whether or not it fits.
-pub stop_repetition : (r i a b : ℕ) → cond (ltb a i && eqb b 0) REPETITION FIELD ≡ stop_of r i 6 a b
-unfolding stop_of fault_of fields_fit
-stop_repetition r i a b = by (ltb a i && eqb b 0)
-  where
-    by : (f : Bool) → cond f REPETITION FIELD ≡ cond f REPETITION (cond f READ FIELD)
-    by true = refl
-    by false = refl
-
 -- At a kind above 01's it stops with KIND, whatever the fields.
 pub stop_above : (r i kind a b : ℕ) → 6 < kind → KIND ≡ stop_of r i kind a b
 unfolding stop_of fault_of
 stop_above r i kind a b h = rw (ne_eqb kind 6 (λ (z : kind ≡ 6). omega arith), lt-leb kind 6 h)
+
+-- At a kind of 01's, by its fields.
+pub stop_against : (r i kind a b : ℕ) → kind ≤ 6 → fields_fit r i kind a b ≡ false → stop_of r i kind a b ≡ FIELD
+unfolding stop_of fault_of
+stop_against r i kind a b h e = rw (e, le-leb kind 6 h, and-false)
+
+pub stop_fitting : (r i kind a b : ℕ) → kind ≤ 6 → fields_fit r i kind a b ≡ true → stop_of r i kind a b ≡ cond (eqb kind 6) REPETITION READ
+unfolding stop_of fault_of
+stop_fitting r i kind a b h e = rw (e, le-leb kind 6 h, and-true)
 
 module _ (r i kind a b : ℕ) where
   -- What is wrong with a node, by what a search stops at.
@@ -77,6 +89,11 @@ module _ (t : List ℕ) where
   unfolding node_stop node_fault
   node_fault_lem i stop e = rw e (fault_of_stop (rules_of t) i (kind_of t i) (a_of t i) (b_of t i))
 
+  -- What a search stops at, by the numbers that the code reads.
+  pub stop_read : (r i a b : ℕ) → r ≡ rules_of t → a ≡ pair_at t (node_at r i + 1) → b ≡ pair_at t (node_at r i + 3) → stop_of r i (byte_at t (node_at r i)) a b ≡ node_stop t i
+  unfolding node_stop kind_of field_of
+  stop_read r i a b er ea eb = rw (ea, eb, er) refl
+
   passed : (i : ℕ) → stops t i ≡ false → node_stop t i ≡ READ
   unfolding stops
   passed i e = by (eqb (node_stop t i) READ) refl
@@ -99,6 +116,29 @@ module _ (t : List ℕ) where
   repetition_there : (i : ℕ) → node_stop t i ≢ READ → node_fault t i ≡ READ → kind_of t i ≡ 6
   unfolding node_stop node_fault
   repetition_there i = stops_at (rules_of t) i (kind_of t i) (a_of t i) (b_of t i)
+
+  -- ---- What the code says of one node.
+  pub refused_there : (i : ℕ) (e : Refusal) → StopsAt t i (Err e) → node_fault t i ≡ code_of e
+  refused_there i e h = sym (node_fault_lem i (code_of e) (sym h.0)) ∙ by e
+    where
+      by : (e : Refusal) → cond (eqb (code_of e) REPETITION) READ (code_of e) ≡ code_of e
+      by Short = refl
+      by Version = refl
+      by Count = refl
+      by Length = refl
+      by (Root a) = refl
+      by (Kind j) = refl
+      by (Field j) = refl
+
+  pub fine_there : (i : ℕ) (repetition : Bool) → StopsAt t i (Ok repetition) → node_fault t i ≡ READ
+  fine_there i true h = sym (node_fault_lem i REPETITION (sym h))
+  fine_there i false h = sym (node_fault_lem i READ (sym h))
+
+  pub stops_said : (i : ℕ) (said : Result Bool Refusal) → StopsAt t i said → result_unwrap_or said true ≡ stops t i
+  unfolding stops
+  stops_said i (Ok true) h = rw h refl
+  stops_said i (Ok false) h = rw h refl
+  stops_said i (Err e) h = rw (ne_eqb _ _ (λ z. refuses e (sym h.0 ∙ z))) refl
 
   -- A search for the first fault may begin where a search stops.
   pub skipped : (f : ℕ → ℕ) (n p : ℕ) → p ≤ n → ((i : ℕ) → i < p → f i ≡ READ) → first_fault f 0 n ≡ first_fault f p (n - p)
@@ -137,27 +177,31 @@ module _ (t : List ℕ) where
         refused = λ m. said.2;
       }
 
+  -- A root that is refused is what the survey says.
+  pub roots_refuse : (r : ℕ) → r ≡ rules_of t → layout_of t ≡ first_fault (root_fault t) 0 (rules_of t) or_else first_fault (node_fault t) 0 (nodes_of t)
+      → (e : Refusal) → verdict_of e ≡ first_fault (root_fault t) 0 r → Surveyed t (survey_of (Err e))
+  roots_refuse r er says e said =
+      survey_refused (survey_of (Err e)) _ _ (says ∙ rw (← er, ← said, ne_eqb (code_of e) READ (refuses e)) refl) (refuses e) (refl, refl, refl)
+
+  -- Where the roots are fine, the nodes decide.
   module _ (n r : ℕ) (en : n ≡ nodes_of t) (er : r ≡ rules_of t)
-      (says : layout_of t ≡ first_fault (root_fault t) 0 (rules_of t) or_else first_fault (node_fault t) 0 (nodes_of t)) (v : Verdict) (ev : v ≡ first_fault (root_fault t) 0 r) where
-    pub roots_refuse : v.code ≢ READ → layout_of t ≡ verdict v.code v.place
-    roots_refuse z = says ∙ rw (← er, ← ev, ne_eqb v.code READ z)
+      (says : layout_of t ≡ first_fault (root_fault t) 0 (rules_of t) or_else first_fault (node_fault t) 0 (nodes_of t)) (roots : verdict READ 0 ≡ first_fault (root_fault t) 0 r) where
+    nodes_decide : layout_of t ≡ first_fault (node_fault t) 0 n
+    nodes_decide = says ∙ rw (← er, ← roots, ← en) refl
 
-    module _ (passed : v.code ≡ READ) (p : ℕ) (s : FirstOf (stops t) 0 n p) (w : Verdict) (ew : w ≡ first_fault (node_fault t) p (n - p)) where
-      pub nodes_decide : layout_of t ≡ verdict w.code w.place
-      nodes_decide = says ∙ rw (← er, ← ev, eq-eqb v.code READ passed, ← en) (from_there n p s ∙ sym ew)
-
-      pub survey_read : w.code ≡ READ → Surveyed t (record { code = READ; place = 0; repetition = p })
-      unfolding Laid
-      survey_read fits =
-          let fine = all_fine n p s (rw ew at fits) in
-          let e : layout_of t ≡ verdict READ 0 = nodes_decide ∙ ew ∙ fine.0 in
-          let reads : (layout_of t).code ≡ READ = ap (λ (w : Verdict). w.code) e in
-          record {
-            code = sym reads;
-            place = sym (ap (λ (w : Verdict). w.place) e);
-            repetition = λ laid. rw (← en) (first_repetition n p s fine.1);
-            refused = λ m. absurd (m reads);
-          }
+    pub survey_nodes : (said : Result ℕ Refusal) → NodesSaid t n said → Surveyed t (survey_of said)
+    unfolding Laid
+    survey_nodes (Ok p) h =
+        let e : layout_of t ≡ verdict READ 0 = nodes_decide ∙ from_there n p h.0 ∙ h.1 in
+        let fine = all_fine n p h.0 (ap (λ (w : Verdict). w.code) h.1) in
+        let reads : (layout_of t).code ≡ READ = ap (λ (w : Verdict). w.code) e in
+        record {
+          code = sym reads;
+          place = sym (ap (λ (w : Verdict). w.place) e);
+          repetition = λ laid. rw (← en) (first_repetition n p h.0 fine.1);
+          refused = λ m. absurd (m reads);
+        }
+    survey_nodes (Err e) h = survey_refused (survey_of (Err e)) _ _ (nodes_decide ∙ h) (refuses e) (refl, refl, refl)
 
   -- ---- One survey of a table.
   surveyed : (code place repetition : ℕ) → Survey
@@ -177,3 +221,25 @@ module _ (t : List ℕ) where
       by : (x : Bool) → eqb (layout_of t).code READ ≡ x → v ≡ w
       by true e = let laid : (layout_of t).code ≡ READ = eqb-true _ _ e in all (one_first (is_repetition t) 0 (nodes_of t) _ _ (a.repetition laid) (b.repetition laid))
       by false e = let out : (layout_of t).code ≢ READ = eqb-false _ _ e in all (a.refused out ∙ sym (b.refused out))
+
+  -- A survey is that of one answer alone: the answer of this code, at this place, with this repetition.
+  answer : (code place repetition : ℕ) → Result ℕ Refusal
+  answer c p n =
+      cond (eqb c READ) (Ok n)
+      (Err (cond (eqb c SHORT) Short (cond (eqb c VERSION) Version (cond (eqb c COUNT) Count (cond (eqb c LENGTH) Length
+      (cond (eqb c ROOT) (Root p) (cond (eqb c KIND) (Kind p) (Field p))))))))
+
+  answered : (x : Result ℕ Refusal) → answer (survey_of x).code (survey_of x).place (survey_of x).repetition ≡ x
+  unfolding answer
+  answered (Ok n) = refl
+  answered (Err Short) = refl
+  answered (Err Version) = refl
+  answered (Err Count) = refl
+  answered (Err Length) = refl
+  answered (Err (Root a)) = refl
+  answered (Err (Kind i)) = refl
+  answered (Err (Field i)) = refl
+
+  -- So there is one answer.
+  pub one_answer : (x y : Result ℕ Refusal) → Surveyed t (survey_of x) → Surveyed t (survey_of y) → x ≡ y
+  one_answer x y a b = sym (answered x) ∙ ap (λ (v : Survey). answer v.code v.place v.repetition) (one_survey (survey_of x) (survey_of y) a b) ∙ answered y

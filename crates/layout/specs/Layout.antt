@@ -1,6 +1,7 @@
 -- 01, "What comes back": codes 1 to 7 with their places, in 01's order.
-use Rattle.std.specs.Prelude.{◌≡◌, Bool, true, false, ◌&&◌, cond, List, ℕ, zero, suc, ◌<◌, length, leb, ltb, eqb}
-use Rattle.layout.specs.declared.Verdict.{Verdict}
+use Rattle.std.specs.Prelude.{◌≡◌, Bool, true, false, ◌&&◌, cond, List, ℕ, zero, suc, ◌<◌, length, leb, ltb, eqb, Result, Ok, Err}
+use Rattle.layout.specs.declared.Refusal.{Refusal}
+use Rattle.layout.specs.declared.Refusal.TheVariants.{Short, Version, Count, Length, Root, Kind, Field}
 use Rattle.layout.specs.Table.{byte_at, length_of, nodes_of, most_nodes, rules_of, most_rules, root_of, node_at, formula, kind_of, a_of, b_of}
 
 -- 01's codes.
@@ -28,8 +29,41 @@ KIND = 6
 abbrev pub FIELD : ℕ
 FIELD = 7
 
+-- A row of 01's table of codes: its code, and its place.
+pub record Verdict : Type 0 where
+  pub code : ℕ
+  pub place : ℕ
+
 abbrev pub verdict : (code place : ℕ) → Verdict
 verdict code place = record { code = code; place = place }
+
+-- The code of a refusal's row.
+abbrev pub code_of : Refusal → ℕ
+code_of Short = SHORT
+code_of Version = VERSION
+code_of Count = COUNT
+code_of Length = LENGTH
+code_of (Root a) = ROOT
+code_of (Kind i) = KIND
+code_of (Field i) = FIELD
+
+-- Its place, 0 where the row has none.
+abbrev pub place_of : Refusal → ℕ
+place_of Short = 0
+place_of Version = 0
+place_of Count = 0
+place_of Length = 0
+place_of (Root a) = a
+place_of (Kind i) = i
+place_of (Field i) = i
+
+abbrev pub verdict_of : Refusal → Verdict
+verdict_of refusal = verdict (code_of refusal) (place_of refusal)
+
+-- The row that a check gives; READ where it refuses nothing.
+abbrev pub row_of : Result Unit Refusal → Verdict
+row_of (Ok done) = verdict READ 0
+row_of (Err refusal) = verdict_of refusal
 
 -- A row of 01's table of codes that has no place: its code, unless its test is passed.
 abbrev pub unless : Bool → (code : ℕ) → Verdict

@@ -2,3 +2,4 @@ pub mod Table
 pub mod Layout
 pub mod Given
 pub mod Survey
+pub mod Nodes

@@ -1,20 +1,21 @@
 -- Bytes of the input, one after the other.
 use mathlib.Core.Path.{◌≡◌, refl, sym, ap, ◌∙◌}
-use mathlib.Core.Bool.{Bool, true, false, cond, false≢true}
+use mathlib.Core.Bool.{Bool, true, false, cond}
 use mathlib.Core.List.{List, [], ◌∷◌, ◌++◌, append_assoc, append-nil}
 use Prim.Native.Nat.{ℕ, zero, suc, ◌+◌, ◌≤◌, ◌<◌}
-use native.Mathlib.Nat.{le_antisymm, le_refl}
+use native.Mathlib.Nat.{le_refl}
 use native.Mathlib.Omega.{arith}
 use native.Mathlib.Numerals.{add-one}
 use lib.Dec.{eqb, leb}
-use lib.ListN.{length, take, get_or, set, replicate, length-set, length-append, length-take}
-use lib.Seq.{take-suc, take-length, take-suc-set, take_all, take-append-le, length-take-le}
+use lib.ListN.{length, take, get_or, replicate, length-append}
+use lib.Seq.{take-suc, take-length, take_all, take-append-le, length-take-le}
 use borrow.Author.Tests.{lt-ltb, leb-true, leb-false, eq-eqb, ne_eqb}
-use Rattle.page.specs.Page.{Puts, has_failed}
+use Rattle.page.specs.declared.Page.{Page}
+use Rattle.page.specs.Page.{Puts}
 use Rattle.page.proofs.Laws.{puts_both, puts_none}
 use Rattle.reader.specs.Answer.{Outcome, longest_line, reading_of}
 use Rattle.answers.specs.Printed.{working_numbers, room_bytes, answer_text, outcome_of, line_text}
-use Rattle.lesson.specs.Lines.{LF, kept, Lengthened, text_of, begun_by, last_text, Taken, TakenUnlessFailed}
+use Rattle.lesson.specs.Lines.{LF, kept, Lengthened, text_of, begun_by, last_text, Taken}
 
 -- what is cut off twice is cut off once
 cut_twice : (k : ℕ) (xs ys : List ℕ) → take k (take k xs ++ ys) ≡ take k (xs ++ ys)
@@ -88,88 +89,50 @@ text_both table begun (x ∷ xs) ys = by (eqb x LF) (text_both table [] xs ys) (
     by true p q = rw (p, append_assoc (line_text table begun) (text_of table [] xs) (text_of table (begun_by [] xs) ys))
     by false p q = q
 
-module _ {table l m n a b c : List ℕ} {i j k u v w : ℕ} {xs ys : List ℕ} where
-  taken_both : Taken table l i xs a u m j b v → Taken table m j ys b v n k c w → Taken table l i (xs ++ ys) a u n k c w
+module _ {table l m n xs ys : List ℕ} {a b c : Page} where
+  taken_both : Taken table l xs a m b → Taken table m ys b n c → Taken table l (xs ++ ys) a n c
   taken_both s t =
-      let left : List ℕ = begun_by (take i l) xs in
+      let left : List ℕ = begun_by l xs in
       record {
         within = t.within;
-        begun =
-            t.begun ∙ ap (λ (x : List ℕ). take kept (begun_by x ys)) s.begun ∙ cut_begun left ys
-            ∙ ap (take kept) (sym (begun_both (take i l) xs ys));
-        printed = rw (text_both table (take i l) xs ys, ← cut_text table left ys, ← s.begun) (puts_both s.printed t.printed);
+        begun = t.begun ∙ ap (λ (x : List ℕ). take kept (begun_by x ys)) s.begun ∙ cut_begun left ys ∙ ap (take kept) (sym (begun_both l xs ys));
+        printed = rw (text_both table l xs ys, ← cut_text table left ys, ← s.begun) (puts_both s.printed t.printed);
       }
 
-pub taken_none : (table line : List ℕ) (count : ℕ) (page : List ℕ) (used : ℕ) → count ≤ kept → Taken table line count [] page used line count page used
+pub taken_none : (table line : List ℕ) (page : Page) → length line ≤ kept → Taken table line [] page line page
 unfolding begun_by text_of
-taken_none table line count page used h = record { within = h; begun = sym (take_all kept (take count line) (short line count h)); printed = puts_none page used }
-  where
-    short : (line : List ℕ) (count : ℕ) → count ≤ kept → length (take count line) ≤ kept
-    short line count h = rw (length-take count line) (omega arith)
+taken_none table line page h = record { within = h; begun = sym (take_all kept line h); printed = puts_none page }
 
-pub taken_one : {table l m n a b c : List ℕ} {i j k u v w : ℕ} (bytes : List ℕ) (at : ℕ) → at < length bytes
-    → Taken table l i (take at bytes) a u m j b v → Taken table m j (get_or bytes at 0 ∷ []) b v n k c w → Taken table l i (take (at + 1) bytes) a u n k c w
+pub taken_one : {table l m n : List ℕ} {a b c : Page} (bytes : List ℕ) (at : ℕ) → at < length bytes
+    → Taken table l (take at bytes) a m b → Taken table m (get_or bytes at 0 ∷ []) b n c → Taken table l (take (at + 1) bytes) a n c
 taken_one bytes at h s t = rw (add-one at, take-suc bytes at 0 h) (taken_both s t)
 
-pub taken_all : {table l m a b : List ℕ} {i j u v : ℕ} (bytes : List ℕ) (at : ℕ) → at ≤ length bytes → length bytes ≤ at
-    → Taken table l i (take at bytes) a u m j b v → Taken table l i bytes a u m j b v
-taken_all bytes at h k t =
-    let e : at ≡ length bytes = le_antisymm h k in
-    let f : take at bytes ≡ bytes = rw (e, take-length) in
-    rw f at t
-
 -- LF ends the line
-pub line_ends : (table line : List ℕ) (count byte : ℕ) (page : List ℕ) (used : ℕ) (whole after : List ℕ) (used_after : ℕ) → byte ≡ LF → whole ≡ take count line
-    → Puts page used (line_text table whole) after used_after → Taken table line count (byte ∷ []) page used line 0 after used_after
+pub line_ends : (table line : List ℕ) (byte : ℕ) {page after : Page} → byte ≡ LF → Puts page (line_text table line) after → Taken table line (byte ∷ []) page [] after
 unfolding begun_by text_of
-line_ends table line count byte page used whole after used_after e f p =
-    let q : Puts page used (line_text table (take count line)) after used_after = rw f at p in
-    record { within = omega arith; begun = simp (eq-eqb byte LF e); printed = simp (eq-eqb byte LF e, append-nil) q }
+line_ends table line byte e p = record { within = omega arith; begun = simp (eq-eqb byte LF e); printed = simp (eq-eqb byte LF e, append-nil) p }
 
-module _ (line : List ℕ) (count byte : ℕ) where
-  pub one_longer_lem : count < length line → Lengthened line count byte (set line count byte) (count + 1)
-  one_longer_lem h =
-      let long : length (take count line ++ (byte ∷ [])) ≡ suc count = simp (length-append, length-take-le count line (omega arith)) (omega arith) in
-      record {
-        place = simp length-set;
-        within = omega arith;
-        begun = rw (add-one count, take-suc-set line count byte h, take_all (length line) (take count line ++ (byte ∷ [])) (omega arith));
-      }
+module _ (line : List ℕ) (byte : ℕ) where
+  pub one_longer : length line < kept → Lengthened line byte (line ++ (byte ∷ []))
+  one_longer h =
+      let short : length (line ++ (byte ∷ [])) ≤ kept = simp length-append (omega arith) in
+      record { within = short; begun = sym (take_all kept (line ++ (byte ∷ [])) short) }
 
-  pub no_longer : count ≤ length line → length line ≤ count → Lengthened line count byte line count
-  no_longer most h =
+  pub no_longer : length line ≡ kept → Lengthened line byte line
+  no_longer e =
       let whole : length line ≤ length line = le_refl _ in
-      let all : take count line ≡ line = take_all count line h in
-      record { place = refl; within = most; begun = rw (all, take-append-le, take-length) }
+      record { within = omega arith; begun = rw (← e, take-append-le, take-length) }
 
 -- any byte but LF belongs to it
-pub line_grows : (table line : List ℕ) (count byte : ℕ) (page : List ℕ) (used : ℕ) (after : List ℕ) (count_after : ℕ) → (byte ≡ LF → ⊥) → length line ≡ kept
-    → Lengthened line count byte after count_after → Taken table line count (byte ∷ []) page used after count_after page used
+pub line_grows : (table line after : List ℕ) (byte : ℕ) (page : Page) → (byte ≡ LF → ⊥) → Lengthened line byte after → Taken table line (byte ∷ []) page after page
 unfolding begun_by text_of
-line_grows table line count byte page used after count_after ne full l = record {
-  within = omega arith;
-  begun = simp (ne_eqb byte LF ne) (l.begun ∙ ap (λ (most : ℕ). take most (take count line ++ (byte ∷ []))) full);
-  printed = simp (ne_eqb byte LF ne) (puts_none page used);
-}
+line_grows table line after byte page ne l = record { within = l.within; begun = simp (ne_eqb byte LF ne) l.begun; printed = simp (ne_eqb byte LF ne) (puts_none page) }
 
-module _ {table l m a b : List ℕ} {i j u v : ℕ} {xs : List ℕ} where
-  -- a failure ends the taking
-  pub stopped : (flag : Bool) → flag ≡ has_failed b → flag ≡ true → j ≤ kept → TakenUnlessFailed table l i xs a u m j b v
-  stopped flag seen f h = record { keeps = h; taken = λ e. absurd (false≢true (sym e ∙ sym seen ∙ f)) }
-
-  pub finished : Taken table l i xs a u m j b v → TakenUnlessFailed table l i xs a u m j b v
-  finished t = record { keeps = t.within; taken = λ _. t }
-
-module _ (table begun whole page : List ℕ) (front : whole ≡ begun) where
-  pub no_last : length whole ≡ 0 → Puts page 0 (last_text table begun) page 0
+module _ (table line : List ℕ) (page : Page) where
+  pub no_last : length line ≡ 0 → Puts page (last_text table line) page
   unfolding last_text
-  no_last h =
-      let none : length begun ≡ 0 = rw front at h in
-      rw (eq-eqb (length begun) 0 none) (puts_none page 0)
+  no_last h = rw (eq-eqb (length line) 0 h) (puts_none page)
 
-  pub a_last : (after : List ℕ) (used : ℕ) → (length whole ≡ 0 → ⊥) → Puts page 0 (line_text table whole) after used → Puts page 0 (last_text table begun) after used
+  pub a_last : {after : Page} → (length line ≡ 0 → ⊥) → Puts page (line_text table line) after → Puts page (last_text table line) after
   unfolding last_text
-  a_last after used h p =
-      let some : length begun ≡ 0 → ⊥ = rw front at h in
-      let q : Puts page 0 (line_text table begun) after used = rw front at p in
-      rw (ne_eqb (length begun) 0 some) q
+  a_last h p = rw (ne_eqb (length line) 0 h) p

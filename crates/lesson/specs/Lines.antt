@@ -1,5 +1,6 @@
 -- 01: "A line ends at LF, which is dropped". What is printed for bytes of the input, and which line they leave begun.
 use Rattle.std.specs.Prelude.{◌≡◌, false, cond, List, [], ◌∷◌, ◌++◌, ℕ, ◌+◌, ◌≤◌, length, take, eqb}
+use Rattle.page.specs.declared.Page.{Page}
 use Rattle.page.specs.Page.{Puts, has_failed}
 use Rattle.stored.specs.Version.{longest_line}
 use Rattle.answers.specs.Printed.{line_text}
@@ -28,18 +29,17 @@ abbrev pub kept : ℕ
 kept = longest_line + 1
 
 -- The line on its place has a byte more, if there is room.
-pub record Lengthened (line : List ℕ) (count byte : ℕ) (after : List ℕ) (count_after : ℕ) : Type 0 where
-  pub place : length after ≡ length line
-  pub within : count_after ≤ length line
-  pub begun : take count_after after ≡ take (length line) (take count line ++ (byte ∷ []))
+pub record Lengthened (line : List ℕ) (byte : ℕ) (after : List ℕ) : Type 0 where
+  pub within : length after ≤ kept
+  pub begun : after ≡ take kept (line ++ (byte ∷ []))
 
 -- Bytes of the input were taken: what they print is put on the page, and the line that they leave begun is kept.
-pub record Taken (table line : List ℕ) (count : ℕ) (bytes page : List ℕ) (used : ℕ) (line_after : List ℕ) (count_after : ℕ) (page_after : List ℕ) (used_after : ℕ) : Type 0 where
-  pub within : count_after ≤ kept
-  pub begun : take count_after line_after ≡ take kept (begun_by (take count line) bytes)
-  pub printed : Puts page used (text_of table (take count line) bytes) page_after used_after
+pub record Taken (table line bytes : List ℕ) (page : Page) (line_after : List ℕ) (page_after : Page) : Type 0 where
+  pub within : length line_after ≤ kept
+  pub begun : line_after ≡ take kept (begun_by line bytes)
+  pub printed : Puts page (text_of table line bytes) page_after
 
 -- All were taken, unless a write has failed.
-pub record TakenUnlessFailed (table line : List ℕ) (count : ℕ) (bytes page : List ℕ) (used : ℕ) (line_after : List ℕ) (count_after : ℕ) (page_after : List ℕ) (used_after : ℕ) : Type 0 where
-  pub keeps : count_after ≤ kept
-  pub taken : has_failed page_after ≡ false → Taken table line count bytes page used line_after count_after page_after used_after
+pub record TakenUnlessFailed (table line bytes : List ℕ) (page : Page) (line_after : List ℕ) (page_after : Page) : Type 0 where
+  pub keeps : length line_after ≤ kept
+  pub taken : has_failed page_after ≡ false → Taken table line bytes page line_after page_after

@@ -1,6 +1,6 @@
 -- What is printed where there is no line to answer.
 use Rattle.std.specs.Prelude.{List, ℕ}
-use Rattle.layout.specs.declared.Verdict.{Verdict}
+use Rattle.layout.specs.Layout.{Verdict}
 use Rattle.answers.specs.Quoted.{bytes}
 use Rattle.answers.specs.Printed.{refusal_text}
 

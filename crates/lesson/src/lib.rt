@@ -4,114 +4,140 @@
 mod lines;
 mod load;
 
-ghost use Rattle.std.specs.Prelude.{◌≡◌, cond, ◌≤◌};
+ghost use Rattle.std.specs.Prelude.{◌≡◌, ◌≤◌, Err};
 ghost use Rattle.page.specs.Page.{has_failed, Puts};
+ghost use Rattle.sheet.specs.Check.{verdict_of};
 ghost use Rattle.lesson.specs.Texts.{grammar_text, verdict_text};
-ghost use Rattle.lesson.specs.Status.{refused, failed, Ends, status_of};
+ghost use Rattle.lesson.specs.Status.{refused, failed, exit_status_of, written_unless, Ends, status_of};
 
-use layout::Verdict;
 use page::Page;
+use sheet::Refusal;
 use std::fs::File;
 use std::io::Input;
 use std::rt::Files;
 
 const STDERR: i32 = 2;
 
-// The exit status: all was read and printed; there was no sheet to read by; reading or writing failed.
-pub(crate) const DONE: u32 = 0;
-
-pub(crate) const REFUSED: u32 = 1;
-
-pub(crate) const FAILED: u32 = 2;
-
 // The longest table has 2,695 bytes, and one more is kept: a file that is longer is seen to be so.
 const TABLE: usize = 2_696;
 
-// Says on standard error what failed.
-pub(crate) fn fail(message: &[u8]) -> u32
-    ensures { result ≡ failed }
-{
-    io::write_all(STDERR, message);
-    FAILED
+// The exit status where nothing failed: all was read and printed, or there was no sheet to read by.
+#[derive(Clone, Copy, Debug, PartialEq, Eq)]
+enum Status {
+    Done = 0,
+    Refused = 1,
 }
 
-pub(crate) fn fail_to_write() -> u32
-    ensures { result ≡ failed }
-{
-    fail(b"classroom: standard output could not be written\n")
+// The exit status where reading or writing failed. No variant of Status: it is every Failure's status, and no ending's.
+const FAILED: u32 = 2;
+
+// What could not be read or written.
+#[derive(Clone, Copy, Debug, PartialEq, Eq)]
+pub(crate) enum Failure {
+    Table,
+    Input,
+    Output,
 }
 
-// Writes out what of the page is used, and gives the status, unless a write has failed.
-pub(crate) fn print(page: &mut Page, used: usize, status: u32) -> u32
-    ensures { result ≡ cond (has_failed page.new) failed status }
-{
-    page::send(page, used);
-    if page::failed(page) {
-        return fail_to_write();
+impl Failure {
+    // Says on standard error what failed, by the kit's `io`: `eprintln!` would ask each caller of the program for leave to print.
+    fn tell(self) {
+        let message: &[u8] = match self {
+            Failure::Table => b"classroom: class.gram could not be read\n",
+            Failure::Input => b"classroom: standard input could not be read\n",
+            Failure::Output => b"classroom: standard output could not be written\n",
+        };
+        io::write_all(STDERR, message);
     }
-    status
+}
+
+// Writes out what of the page is used.
+pub(crate) fn print(page: &mut Page) -> Result<(), Failure>
+    ensures { result ≡ written_unless (has_failed page.new) }
+{
+    page.send();
+    if page.failed() {
+        return Err(Failure::Output);
+    }
+    Ok(())
 }
 
 // Where there is no table, this is printed instead of answers.
-fn put_grammar(page: &mut Page) -> usize
-    ensures { Puts page.old 0 grammar_text page.new result }
+fn put_grammar(page: &mut Page)
+    ensures { Puts page.old grammar_text page.new }
 {
-    page::put_all(page, 0, b"GRAMMAR\n")
+    page.put_all(b"GRAMMAR\n");
 }
 
-fn print_grammar(status: u32) -> u32
-    ensures { Ends status result }
-{
-    let mut page = page::blank();
-    let used = put_grammar(&mut page);
-    print(&mut page, used, status)
+fn print_grammar() -> Result<(), Failure> {
+    let mut page = Page::blank();
+    put_grammar(&mut page);
+    print(&mut page)
 }
 
-fn put_verdict(page: &mut Page, verdict: Verdict) -> usize
-    ensures { Puts page.old 0 (verdict_text verdict) page.new result }
+fn put_verdict(page: &mut Page, refusal: Refusal)
+    ensures { Puts page.old (verdict_text (verdict_of (Err refusal))) page.new }
 {
-    answers::put_refusal(page, 0, verdict.code as u64, verdict.place as u64, 0)
+    answers::put_refusal(page, refusal.code() as u64, refusal.place() as u64, 0);
 }
 
-fn print_verdict(verdict: Verdict) -> u32
-    ensures { Ends refused result }
+fn print_verdict(refusal: Refusal) -> Result<Status, Failure>
+    ensures { Ends refused (exit_status_of result) }
 {
-    let mut page = page::blank();
-    let used = put_verdict(&mut page, verdict);
-    print(&mut page, used, REFUSED)
+    let mut page = Page::blank();
+    put_verdict(&mut page, refusal);
+    print(&mut page)?;
+    Ok(Status::Refused)
 }
 
 // A refused table prints one line and nothing more.
-fn read_by<R: Input>(rt: &R, table: &[u8]) -> u32
-    ensures { Ends (status_of table.now) result }
+fn read_by<R: Input>(rt: &R, table: &[u8]) -> Result<Status, Failure>
+    ensures { Ends (status_of table.now) (exit_status_of result) }
 {
-    let verdict = sheet::check(table);
-    if verdict.code > 0 {
-        return print_verdict(verdict);
+    if let Err(refusal) = sheet::check(table) {
+        return print_verdict(refusal);
     }
-    lines::read_lines(rt, table)
+    lines::read_lines(rt, table)?;
+    Ok(Status::Done)
 }
 
 // A file that opens and can't be read, as a folder, prints what an unopened one does.
-fn fail_to_load() -> u32
-    ensures { result ≡ failed }
+fn fail_to_load() -> Failure {
+    if let Err(failure) = print_grammar() {
+        failure.tell();
+    }
+    Failure::Table
+}
+
+fn read_class<R: Files + Input>(rt: &R) -> Result<Status, Failure> {
+    let Ok(mut file) = File::open(rt, "class.gram") else {
+        print_grammar()?;
+        return Ok(Status::Refused);
+    };
+    let mut table = [0; TABLE];
+    let loaded = load::load(&mut file, &mut table);
+    drop(file);
+    match loaded {
+        Ok(length) => read_by(rt, page::front(&table, length)),
+        Err(_) => Err(fail_to_load()),
+    }
+}
+
+fn exit_status(ending: Result<Status, Failure>) -> u32
+    ensures { result ≡ exit_status_of ending }
 {
-    print_grammar(FAILED);
-    fail(b"classroom: class.gram could not be read\n")
+    match ending {
+        Ok(status) => status as u32,
+        Err(failure) => {
+            failure.tell();
+            FAILED
+        }
+    }
 }
 
 // The program; what it gives is its exit status.
 pub fn kos_lesson<R: Files + Input>(rt: &R) -> u32
     ensures { result ≤ failed }
 {
-    let Ok(mut file) = File::open(rt, "class.gram") else {
-        return print_grammar(REFUSED);
-    };
-    let mut table = [0u8; TABLE];
-    let loaded = load::load(&mut file, &mut table);
-    drop(file);
-    if loaded.is_read {
-        return read_by(rt, page::front(&table, loaded.length));
-    }
-    fail_to_load()
+    exit_status(read_class(rt))
 }

@@ -1,8 +1,8 @@
-// Text on its way to standard output, gathered on a lent page: a page that is full is written out and filled anew.
+// Text on its way to standard output, gathered on a page: a page that is full is written out and filled anew.
 #![tactic(auto)]
 
-ghost use Rattle.std.specs.Prelude.{◌≡◌, [], ◌∷◌, ◌+◌, take, replicate};
-ghost use Rattle.page.specs.Page.{size, has_failed, marked, Puts};
+ghost use Rattle.std.specs.Prelude.{◌≡◌, [], ◌∷◌, take};
+ghost use Rattle.page.specs.Page.{blank_page, has_failed, marked, Sends, Puts};
 ghost use Rattle.page.specs.Decimal.{decimal};
 
 // What is put on a page goes to standard output.
@@ -10,84 +10,80 @@ const STDOUT: i32 = 1;
 
 const SIZE: usize = 4_096;
 
-// The bytes that hold text, and one more behind them: 1 once a write has failed.
-const LENGTH: usize = 4_097;
-
-pub type Page = [u8; LENGTH];
-
-pub fn blank() -> Page
-    ensures { result ≡ replicate (size + 1) 0 }
-{
-    [0; LENGTH]
+// The bytes of text, how many of them, from the front, are used, and whether a write has failed. No vector: `Puts` says what stands past the used ones too.
+#[derive(Drop)]
+pub struct Page {
+    bytes: [u8; SIZE],
+    used: usize,
+    failed: bool,
 }
 
-pub fn failed(page: &Page) -> bool
-    ensures { result ≡ has_failed page.now }
-{
-    page[SIZE] > 0
-}
-
-// Remembers of a write whether it was done.
-fn mark(page: &mut Page, done: bool)
-    ensures { page.new ≡ marked page.old done }
-{
-    if done {
-        return;
+impl Page {
+    pub fn blank() -> Page
+        ensures { result ≡ blank_page }
+    {
+        Page {
+            bytes: [0; SIZE],
+            used: 0,
+            failed: false,
+        }
     }
-    page[SIZE] = 1;
-}
 
-// Writes out what of the page is used; after a write that failed there is no other.
-pub fn send(page: &mut Page, used: usize)
-    ensures { Puts page.old used [] page.new used }
-{
-    if failed(page) {
-        return;
+    pub fn failed(&self) -> bool
+        ensures { result ≡ has_failed self.now }
+    {
+        self.failed
     }
-    let done = io::write_all(STDOUT, front(front(page, SIZE), used));
-    mark(page, done);
-}
 
-// Puts a byte on the page, `used` bytes of which are used, and answers how many then are.
-pub fn put(page: &mut Page, used: usize, byte: u8) -> usize
-    ensures { Puts page.old used (byte ∷ []) page.new result }
-{
-    if used < SIZE {
-        page[used] = byte;
-        return used + 1;
+    // Remembers of a write whether it was done.
+    fn mark(&mut self, done: bool)
+        ensures { self.new ≡ marked self.old done }
+    {
+        self.failed |= !done;
     }
-    send(page, SIZE);
-    page[0] = byte;
-    1
-}
 
-pub fn put_all(page: &mut Page, used: usize, bytes: &[u8]) -> usize
-    ensures { Puts page.old used bytes.now page.new result }
-{
-    let mut at = used;
-    let mut i = 0;
-    while i < bytes.len() {
-        at = put(page, at, bytes[i]);
-        i += 1;
+    // Writes out what of the page is used, and then none of it is; after a write that failed there is no other.
+    pub fn send(&mut self)
+        ensures { Sends self.old self.new }
+    {
+        if !self.failed {
+            let done = io::write_all(STDOUT, front(&self.bytes, self.used));
+            self.mark(done);
+        }
+        self.used = 0;
     }
-    at
-}
 
-// Puts a number in decimal digits.
-pub fn put_number(page: &mut Page, used: usize, number: u64) -> usize
-    ensures { Puts page.old used (decimal number) page.new result }
-{
-    let mut digits = [0u8; 20];
-    let places = io::decimal(number, &mut digits);
-    put_all(page, used, &digits[..places])
+    pub fn put(&mut self, byte: u8)
+        ensures { Puts self.old (byte ∷ []) self.new }
+    {
+        if self.used >= SIZE {
+            self.send();
+        }
+        self.bytes[self.used] = byte;
+        self.used += 1;
+    }
+
+    pub fn put_all(&mut self, bytes: &[u8])
+        ensures { Puts self.old bytes.now self.new }
+    {
+        for byte in bytes {
+            self.put(*byte);
+        }
+    }
+
+    // Puts a number in decimal digits. The library's `Display` says which digits it writes only where it writes to a String, which allocates.
+    pub fn put_number(&mut self, number: u64)
+        ensures { Puts self.old (decimal number) self.new }
+    {
+        let mut digits = [0; 20];
+        let places = io::decimal(number, &mut digits);
+        self.put_all(&digits[..places]);
+    }
 }
 
 // So many bytes from the front, or all of them.
 pub fn front(bytes: &[u8], count: usize) -> &[u8]
     ensures { result.now ≡ take count bytes.now }
 {
-    if count > bytes.len() {
-        return bytes;
-    }
-    &bytes[..count]
+    &bytes[..count.min(bytes.len())]
 }

@@ -1,4 +1,5 @@
-pub mod Filling
 pub mod Starting
 pub mod Finishing
 pub mod Turning
+pub mod Choosing
+pub mod Exact

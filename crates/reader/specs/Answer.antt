@@ -1,13 +1,20 @@
 -- 01, "What comes back": the numbers of a reading, with the one that 02's W-203 adds, and what it leaves in the working numbers and in the room.
-use Rattle.std.specs.Prelude.{ℕ, ◌+◌, ◌≡◌, Bool, ◌&&◌, ◌||◌, cond, List, ◌++◌, length, drop, replicate, ltb, eqb}
+use Rattle.std.specs.Prelude.{ℕ, ◌+◌, ◌≡◌, Bool, true, false, ◌&&◌, ◌||◌, cond, Result, Ok, Err, List, ◌++◌, length, drop, replicate, ltb, eqb}
 use Rattle.meaning.specs.Grammar.{Trees, fail, ok}
 pub use Rattle.meaning.specs.Reading.{EFFORT, DEEP}
 pub use Rattle.visits.specs.Given.{longest_line, most_allowance, work_needed}
 use Rattle.meaning.specs.Reading.{made, Run, effort, deep, done, read}
 use Rattle.layout.specs.Table.{nodes_of, grammar_of}
 use Rattle.sheet.specs.Check.{check_of}
+use Rattle.sheet.specs.Check as sheet
 use Rattle.stored.specs.Version.{version_of}
 use Rattle.stored.specs.Stored.{records_of, stored_length, stored_of}
+use Rattle.reader.specs.declared.Refusal.{Refusal}
+use Rattle.reader.specs.declared.Refusal.TheVariants.{Sheet, Line, Allowance, Work}
+use Rattle.reader.specs.declared.Extent.{Extent}
+use Rattle.reader.specs.declared.Extent.TheVariants.{Prefix, Whole}
+use Rattle.reader.specs.declared.Ending.{Ending}
+use Rattle.reader.specs.declared.Ending.TheVariants.{Read, Effort, Deep, Fail, Rest, Records, Room}
 use Rattle.reader.specs.declared.Reading.{Reading}
 
 abbrev pub LINE : ℕ
@@ -35,13 +42,22 @@ ROOM = 16
 abbrev pub most_records : ℕ
 most_records = 1000
 
+-- The numbers that come back.
+pub record Numbers : Type 0 where
+  pub code : ℕ
+  pub place : ℕ
+  pub matched : ℕ
+  pub visits : ℕ
+  pub records : ℕ
+  pub furthest : ℕ
+
 -- What comes back, and the final contents of what was lent to be written.
 pub record Outcome : Type 0 where
-  pub reading : Reading
+  pub reading : Numbers
   pub work : List ℕ
   pub room : List ℕ
 
-abbrev pub numbers : (code place matched visits records furthest : ℕ) → Reading
+abbrev pub numbers : (code place matched visits records furthest : ℕ) → Numbers
 numbers code place matched visits records furthest = record { code = code; place = place; matched = matched; visits = visits; records = records; furthest = furthest }
 
 -- 01: "the first numbers of the working room, as many as the formula says, are zero and the rest as found".
@@ -77,8 +93,41 @@ reading_of whole table line allowance work room =
     (cond (ltb (length work) (work_needed allowance (nodes_of table) (length line))) (turned_away WORK 0 work room)
     (run_outcome whole (length line) allowance (read (grammar_of table) line allowance) (cleared (work_needed allowance (nodes_of table) (length line)) work) room))))
 
+-- The numbers that a refusal stands for.
+abbrev pub code_of : Refusal → ℕ
+code_of (Sheet refusal) = sheet.code_of refusal
+code_of Line = LINE
+code_of Allowance = ALLOW
+code_of Work = WORK
+
+abbrev pub place_of : Refusal → ℕ
+place_of (Sheet refusal) = sheet.place_of refusal
+place_of Line = 0
+place_of Allowance = 0
+place_of Work = 0
+
+-- The numbers that an ending stands for, after so many visits, with the furthest position reached.
+abbrev pub numbers_ending : Ending → (visits furthest : ℕ) → Numbers
+numbers_ending (Read matched records) visits furthest = numbers 0 0 matched visits records furthest
+numbers_ending (Effort place) visits furthest = numbers EFFORT place 0 visits 0 furthest
+numbers_ending (Deep place) visits furthest = numbers DEEP place 0 visits 0 furthest
+numbers_ending Fail visits furthest = numbers FAIL 0 0 visits 0 furthest
+numbers_ending (Rest matched) visits furthest = numbers REST matched matched visits 0 furthest
+numbers_ending (Records matched) visits furthest = numbers RECORDS matched matched visits (most_records + 1) furthest
+numbers_ending (Room matched records) visits furthest = numbers ROOM matched matched visits records furthest
+
+-- The numbers that a result stands for.
+abbrev pub numbers_of : Result Reading Refusal → Numbers
+numbers_of (Ok reading) = numbers_ending reading.ending reading.visits reading.furthest
+numbers_of (Err refusal) = numbers (code_of refusal) (place_of refusal) 0 0 0 0
+
+-- Whether the whole line is asked for.
+abbrev pub is_whole : Extent → Bool
+is_whole Prefix = false
+is_whole Whole = true
+
 -- What a function returned and left is an outcome.
-pub record Leaves (o : Outcome) (r : Reading) (work room : List ℕ) : Type 0 where
+pub record Leaves (o : Outcome) (r : Numbers) (work room : List ℕ) : Type 0 where
   pub returned : r ≡ o.reading
   pub working : work ≡ o.work
   pub stored : room ≡ o.room

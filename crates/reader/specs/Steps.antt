@@ -1,4 +1,4 @@
--- What the steps of a reading promise one another: clearing, the visits, and how they ended.
+-- What the steps of a reading promise one another: the visits, and how they ended.
 use Rattle.std.specs.Prelude.{ℕ, ◌+◌, ◌*◌, ◌<◌, ◌≤◌, ◌≡◌, Bool, true, List, length, get_or}
 use Rattle.meaning.specs.Grammar.{fail, ok}
 use Rattle.meaning.specs.Decide.{is_free}
@@ -10,15 +10,7 @@ use Rattle.cells.specs.Cells.{trees_at}
 use Rattle.cells.specs.Arena.{Arena}
 use Rattle.visits.specs.Words.{furthest_in}
 use Rattle.visits.specs.Says.{FAILED, STOPPED, Visited, Refused}
-use Rattle.reader.specs.declared.Reading.{Reading}
-use Rattle.reader.specs.Answer.{EFFORT, DEEP, longest_line, most_allowance, work_needed, run_outcome, Leaves}
-
--- The words from one place up to another were written by f, the others are as they were.
-pub record Filled (old new : List ℕ) (from to : ℕ) (f : ℕ → ℕ) : Type 0 where
-  pub long : length new ≡ length old
-  pub written : (i : ℕ) → from ≤ i → i < to → get_or new i 0 ≡ f i
-  pub before : (i : ℕ) → i < from → get_or new i 0 ≡ get_or old i 0
-  pub past : (i : ℕ) → to ≤ i → get_or new i 0 ≡ get_or old i 0
+use Rattle.reader.specs.Answer.{EFFORT, DEEP, longest_line, most_allowance, Numbers, work_needed, run_outcome, Leaves}
 
 -- Nothing turns the call away, and the words are made ready.
 pub record Fitting (table line work : List ℕ) (allowance : ℕ) : Type 0 where
@@ -63,5 +55,5 @@ pub record Finishable (long : ℕ) (w : List ℕ) (v : Visited) : Type 0 where
   pub list_within : v.end < STOPPED → v.list ≤ v.top
 
 -- However the run ended, if the result tells it, what was returned and written is its outcome.
-abbrev pub Finished : (whole : Bool) (long : ℕ) (w : List ℕ) (v : Visited) (r : Reading) (old new : List ℕ) → Type 0
+abbrev pub Finished : (whole : Bool) (long : ℕ) (w : List ℕ) (v : Visited) (r : Numbers) (old new : List ℕ) → Type 0
 Finished whole long w v r old new = (allowance : ℕ) (m : Run) (work : List ℕ) → Tells allowance long w v m → Leaves (run_outcome whole long allowance m work old) r work new

@@ -19,8 +19,7 @@ use Rattle.layout.proofs.Laying.{well_laid, rule_count, closed, length-each, get
 use Rattle.empties.specs.Empties.{MaskOf}
 use Rattle.empties.proofs.Once.{together}
 use Rattle.sheet.proofs.Accepting.{laid}
-use Rattle.report.specs.declared.Findings.{Findings}
-use Rattle.report.specs.Report.{LeftRules, Reported}
+use Rattle.report.specs.Report.{LeftRules, Numbers, Reported}
 
 module _ {r : ℕ} {P : ℕ → Type 0} {mask : ℕ} (m : MaskOf r P mask) (few : r ≤ 64) (marks : List Bool) (as_many : length marks ≡ r)
     (right : (a : ℕ) → a < r → (get_or marks a false ≡ true) ↔ P a) where
@@ -66,7 +65,7 @@ module _ (t : List ℕ) (accepted : Accepted t) where
       getD-each (left_recursive (grammar_of t)) 0 (length (grammar_of t).roots) a false h ∙ ap (left_recursive (grammar_of t)) e in
       ((λ u. both.0 (sym mark ∙ u)), (λ d. mark ∙ both.1 d)))
 
-module _ {t : List ℕ} {x : Findings} (reported : Reported t x) (accepted : Accepted t) where
+module _ {t : List ℕ} {x : Numbers} (reported : Reported t x) (accepted : Accepted t) where
   pub computed_empty : x.may_be_empty ≡ mask_of (empty_rules (grammar_of t))
   computed_empty = marked (reported.may_be_empty accepted) (few_rules t accepted) (empty_rules (grammar_of t)) (empty_marks (grammar_of t)) (empty_iff (grammar_of t) (closed t (laid t accepted)))
 

@@ -13,8 +13,8 @@ use Rattle.meaning.specs.Decide.{is_free}
 use Rattle.meaning.proofs.Decided.{free_iff}
 use Rattle.meaning.proofs.Reached.{free_of_all}
 use Rattle.layout.specs.Table.{grammar_of}
-use Rattle.layout.specs.Layout.{Laid}
-use Rattle.layout.proofs.Laying.{closed}
+use Rattle.layout.specs.Layout.{READ, layout_of, Laid}
+use Rattle.layout.proofs.Laying.{laid, closed}
 use Rattle.report.specs.Report.{LeftRules, ReachableRules}
 use Rattle.report.specs.Lent.{AtStart, StartRules, Told, by_none, by_one}
 use Rattle.empties.proofs.Once.{together}
@@ -62,8 +62,8 @@ pub free_said : (t : List ℕ) → Laid t → {answer : Bool} → answer ≡ is_
 free_said t a e = rw e (free_iff (grammar_of t) (closed t a))
 
 -- Of a table without a left-recursive rule true is the answer, and the working numbers stay.
-pub free_zero : (t : List ℕ) → LeftRules (grammar_of t) 0 → Laid t → true ≡ is_free (grammar_of t)
-free_zero t l a = free_none (grammar_of t) (closed t a) 0 l refl
+pub free_zero : (t : List ℕ) → LeftRules (grammar_of t) 0 → (layout_of t).code ≡ READ → true ≡ is_free (grammar_of t)
+free_zero t l a = free_none (grammar_of t) (closed t (laid t a)) 0 l refl
 
-pub told_zero : (t : List ℕ) → LeftRules (grammar_of t) 0 → Laid t → Told (grammar_of t)
-told_zero t l a = told_none (grammar_of t) (closed t a) 0 l refl
+pub told_zero : (t : List ℕ) → LeftRules (grammar_of t) 0 → (layout_of t).code ≡ READ → Told (grammar_of t)
+told_zero t l a = told_none (grammar_of t) (closed t (laid t a)) 0 l refl

@@ -2,7 +2,7 @@
 use mathlib.Core.Path.{◌≡◌, refl, sym, ap, ap₂, ◌∙◌}
 use mathlib.Core.Bool.{Bool, true, false}
 use mathlib.Core.List.{List}
-use mathlib.Core.Logic.{◌≢◌, ⊎_elim}
+use mathlib.Core.Logic.{⊎_elim}
 use Prim.Native.Nat.{ℕ, zero, suc, ◌+◌, ◌*◌, ◌/◌, ◌%◌, ◌^◌, ◌≤◌, ◌<◌}
 use native.Mathlib.Nat.{add-zero, eq-or-lt_of_le}
 use native.Mathlib.Numerals.{add-one}
@@ -14,7 +14,6 @@ use lib.ListN.{length, get_or}
 use lib.Seq.{length-sets, ext_get_or}
 use Rattle.bits.proofs.Laws.{halves}
 use Rattle.meaning.specs.Grammar.{Node, empty, range, rule, seq, choice, not, rep, Grammar, node, Below, Closed}
-use Rattle.layout.specs.Table.{decode}
 use Rattle.meaning.proofs.Sets.{sets_below, sets_above, sets_at}
 use Rattle.report.specs.Pass.{in_row, starts_of, starts_at, halves_of, put, passed}
 
@@ -52,18 +51,6 @@ same_starts v w j same = rw (same (2 * j) (omega arith), same (2 * j + 1) (omega
 
 starts_kept : (w : List ℕ) (i x j : ℕ) → j < i → starts_at (put w i x) j ≡ starts_at w j
 starts_kept w i x j h = same_starts (put w i x) w j (λ k l. put_below w i x k (omega arith))
-
--- ---- A node of another kind uses no rule at its start.
-pub no_start : (e : ℕ → Bool) (f : ℕ → ℕ) (k a b : ℕ) → k ≢ 2 → k ≢ 3 → k ≢ 4 → k ≢ 5 → k ≢ 6 → 0 ≡ starts_of e f (decode k a b)
-unfolding starts_of
-no_start e f zero a b n2 n3 n4 n5 n6 = refl
-no_start e f (suc zero) a b n2 n3 n4 n5 n6 = refl
-no_start e f (suc (suc zero)) a b n2 n3 n4 n5 n6 = absurd (n2 refl)
-no_start e f (suc (suc (suc zero))) a b n2 n3 n4 n5 n6 = absurd (n3 refl)
-no_start e f (suc (suc (suc (suc zero)))) a b n2 n3 n4 n5 n6 = absurd (n4 refl)
-no_start e f (suc (suc (suc (suc (suc zero))))) a b n2 n3 n4 n5 n6 = absurd (n5 refl)
-no_start e f (suc (suc (suc (suc (suc (suc zero)))))) a b n2 n3 n4 n5 n6 = absurd (n6 refl)
-no_start e f (suc (suc (suc (suc (suc (suc (suc k))))))) a b n2 n3 n4 n5 n6 = refl
 
 -- ---- What is put down for a node depends on the nodes below it alone.
 starts_local : (g : Grammar) (e : ℕ → Bool) (f h : ℕ → ℕ) (i : ℕ) → ((k : ℕ) → k < i → f k ≡ h k) → (p : Node) → Below g i p → starts_of e f p ≡ starts_of e h p

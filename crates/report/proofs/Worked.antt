@@ -9,17 +9,15 @@ use Rattle.bits.specs.Mask.{digit, has, how_many, least, mask_of}
 use Rattle.meaning.specs.Decide.{empty_nodes, empty_rules, led_to, led_rules, left_recursive, reachable, is_free}
 use Rattle.meaning.proofs.Decided.{free_iff}
 use Rattle.layout.proofs.Laying.{closed}
-use Rattle.layout.specs.declared.Verdict.{Verdict}
 use Rattle.layout.specs.Table.{grammar_of}
-use Rattle.layout.specs.Layout.{READ, verdict}
+use Rattle.layout.specs.Layout.{Verdict, READ, verdict}
 use Rattle.sheet.specs.Check.{check_of, Accepted}
 use Rattle.sheet.proofs.Accepting.{laid}
 use Rattle.layout.proofs.Worked.{tableA, sheetA, tableB, sheetB, table_unused, sheet_unused}
 use Rattle.layout.proofs.Worked as layout
 use Rattle.sheet.proofs.Worked.{sheets}
-use Rattle.report.specs.declared.Findings.{Findings}
 use Rattle.report.specs.declared.Judgement.{Judgement}
-use Rattle.report.specs.Report.{Reported}
+use Rattle.report.specs.Report.{Numbers, Reported}
 use Rattle.report.specs.Lent.{Answered}
 use Rattle.empties.proofs.Once.{together}
 use Rattle.report.proofs.Computed.{recursive_rules, recursive_mask, computed_empty, computed_recursive}
@@ -52,7 +50,7 @@ module _ (t : List ℕ) (g : Grammar) (accepted : check_of t ≡ verdict READ 0)
   unfolding Accepted code
   is_accepted = ap code accepted
 
-  module _ {x : Findings} (reported : Reported t x) where
+  module _ {x : Numbers} (reported : Reported t x) where
     lefts_are : x.left_recursive ≡ l
     lefts_are = computed_recursive reported is_accepted ∙ ap (λ h. mask_of (recursive_rules h)) is ∙ s.lefts
 
@@ -81,15 +79,15 @@ module _ (t : List ℕ) (g : Grammar) (accepted : check_of t ≡ verdict READ 0)
   )
 
 -- A has a left-recursive rule at its start, B has none, and the one that B has when a third rule is added is not reachable.
-pub report_A : {x : Findings} → Reported tableA x
+pub report_A : {x : Numbers} → Reported tableA x
     → (x.code ≡ 0) × (x.place ≡ 0) × (x.may_be_empty ≡ 0) × (x.left_recursive ≡ 1) × (x.how_many ≡ 1) × (x.lowest ≡ 0) × (x.free ≡ false)
 report_A = report_is tableA sheetA sheets.0 (layout.sheets).1 shown.0
 
-pub report_B : {x : Findings} → Reported tableB x
+pub report_B : {x : Numbers} → Reported tableB x
     → (x.code ≡ 0) × (x.place ≡ 0) × (x.may_be_empty ≡ 0) × (x.left_recursive ≡ 0) × (x.how_many ≡ 0) × (x.lowest ≡ 64) × (x.free ≡ true)
 report_B = report_is tableB sheetB sheets.1 (layout.sheets).3 shown.1
 
-pub report_unused : {x : Findings} → Reported table_unused x
+pub report_unused : {x : Numbers} → Reported table_unused x
     → (x.code ≡ 0) × (x.place ≡ 0) × (x.may_be_empty ≡ 0) × (x.left_recursive ≡ 4) × (x.how_many ≡ 1) × (x.lowest ≡ 2) × (x.free ≡ true)
 report_unused = report_is table_unused sheet_unused sheets.2 (layout.sheets).5 shown.2
 

@@ -1,20 +1,23 @@
 -- The check gives each code exactly where its row says, at that row's place; and accepts exactly the well-formed tables.
-use mathlib.Core.Path.{◌≡◌, refl, sym, ap, subst, ◌∙◌}
+use mathlib.Core.Path.{◌≡◌, refl, sym, ap, ap₂, subst, ◌∙◌}
 use mathlib.Core.Logic.{◌↔◌, ◌≢◌, ◌⊎◌, inl, inr}
-use mathlib.Core.Bool.{Bool, true, false}
+use mathlib.Core.Bool.{Bool, true, false, cond}
+use Rattle.std.proofs.Common.{Result, Ok, Err}
 use mathlib.Core.List.{List}
 use Prim.Native.Nat.{ℕ, ◌+◌, ◌≤◌, ◌<◌}
 use native.Mathlib.Omega.{arith}
 use borrow.Author.Tests.{eqb-true, eqb-false, ne_eqb}
 use lib.Dec.{eqb}
-use Rattle.layout.specs.declared.Verdict.{Verdict}
+use Rattle.layout.specs.declared.Refusal.TheVariants.{Short, Version, Count, Length, Root, Kind, Field}
 use Rattle.layout.specs.Table.{nodes_of, most_nodes, grammar_of}
-use Rattle.layout.specs.Layout.{READ, FIELD, verdict, first_fault, layout_of, Laid}
+use Rattle.layout.specs.Layout.{Verdict, READ, SHORT, VERSION, COUNT, LENGTH, ROOT, KIND, FIELD, verdict, first_fault, layout_of, Laid}
 use Rattle.layout.proofs.Exact as layout
 use Rattle.layout.proofs.Cases.{search_cases, search_none, search_found}
 use Rattle.empties.proofs.Once.{Words, one_mask, one_marking}
+use Rattle.sheet.specs.declared.Refusal.{Refusal}
+use Rattle.sheet.specs.declared.Refusal.TheVariants.{Layout, Loop}
 use Rattle.sheet.specs.declared.Examined.{Examined}
-use Rattle.sheet.specs.Check.{LOOP, loop_fault, check_of, Accepted}
+use Rattle.sheet.specs.Check.{LOOP, verdict_of, loop_fault, check_of, Accepted}
 use Rattle.sheet.specs.Examine.{ExaminedAs}
 use Rattle.sheet.specs.Given.{WellFormed, Given, laid_out, loop, read}
 use Rattle.sheet.proofs.Searching.{loop_cases, loop_found, loop_iff, by_loops}
@@ -92,20 +95,39 @@ module _ (t : List ℕ) where
   unfolding Accepted
   accepted_iff = (of_read given, (λ w. ap (λ (v : Verdict). v.code) (gives (read w))))
 
+-- ---- A verdict is that of one answer alone.
+-- The answer of this code, at this place.
+answer : (code place : ℕ) → Result (Unit {0}) Refusal
+answer c p =
+    cond (eqb c READ) (Ok tt)
+    (Err (cond (eqb c SHORT) (Layout Short) (cond (eqb c VERSION) (Layout Version) (cond (eqb c COUNT) (Layout Count) (cond (eqb c LENGTH) (Layout Length)
+    (cond (eqb c ROOT) (Layout (Root p)) (cond (eqb c KIND) (Layout (Kind p)) (cond (eqb c FIELD) (Layout (Field p)) (Loop p)))))))))
+
+answered : (x : Result (Unit {0}) Refusal) → answer (verdict_of x).code (verdict_of x).place ≡ x
+unfolding answer
+answered (Ok tt) = refl
+answered (Err (Layout Short)) = refl
+answered (Err (Layout Version)) = refl
+answered (Err (Layout Count)) = refl
+answered (Err (Layout Length)) = refl
+answered (Err (Layout (Root a))) = refl
+answered (Err (Layout (Kind i))) = refl
+answered (Err (Layout (Field i))) = refl
+answered (Err (Loop i)) = refl
+
+pub one_verdict : (x y : Result (Unit {0}) Refusal) → verdict_of x ≡ verdict_of y → x ≡ y
+one_verdict x y e = sym (answered x) ∙ ap (λ (v : Verdict). answer v.code v.place) e ∙ answered y
+
 -- ---- One examination of a table: what is returned, and what is left in words of 64 bits.
-examined : (code place rules : ℕ) → Examined
-examined c p r = record { code = c; place = p; empty_rules = r }
+examined : (v : Result (Unit {0}) Refusal) (rules : ℕ) → Examined
+examined v r = record { verdict = v; empty_rules = r }
 
 pub one_examination : {t before after after' : List ℕ} {x y : Examined} → ExaminedAs t before after x → ExaminedAs t before after' y → Words after → Words after' → (x ≡ y) × (after ≡ after')
 unfolding examined Laid
 one_examination {t} {before} {after} {after'} {x} {y} a b fits fits' = by (eqb (layout_of t).code READ) refl
   where
     all : x.empty_rules ≡ y.empty_rules → x ≡ y
-    all r =
-        let c : x.code ≡ y.code = a.code ∙ sym b.code in
-        let p : x.place ≡ y.place = a.place ∙ sym b.place in
-        let same : examined x.code x.place x.empty_rules ≡ examined y.code y.place y.empty_rules = cc in
-        same
+    all r = ap₂ examined (one_verdict x.verdict y.verdict (a.verdict ∙ sym b.verdict)) r
 
     by : (q : Bool) → eqb (layout_of t).code READ ≡ q → (x ≡ y) × (after ≡ after')
     by true e =

@@ -1,3 +1,4 @@
+pub mod ByKind
 pub mod Searching
 pub mod Exact
 pub mod Accepting

@@ -3,24 +3,25 @@ use mathlib.Core.Path.{◌≡◌, refl, sym, ap, ◌∙◌}
 use mathlib.Core.Bool.{Bool, true, false, cond, false≢true}
 use mathlib.Core.List.{List}
 use mathlib.Core.Logic.{◌↔◌, ◌≢◌}
-use Prim.Native.Nat.{ℕ, zero, suc, ◌-◌, ◌<◌}
+use Prim.Native.Nat.{ℕ, zero, suc, ◌-◌, ◌≤◌, ◌<◌}
 use native.Mathlib.Omega.{arith}
 use borrow.Author.Tests.{leb-true, leb-false, eqb-true, eqb-false, eq-eqb, ne_eqb}
 use lib.Dec.{eqb, leb}
 use lib.ListN.{length, get_or}
+use Rattle.std.proofs.Common.{Option, None, Some, MatchOption, unwrap_or}
 use Rattle.bits.specs.Marks.{marked}
 use Rattle.meaning.specs.Grammar.{Node, empty, range, rule, seq, choice, not, rep, Grammar, node, Below}
 use Rattle.meaning.specs.Report.{MayBeEmpty, of_empty, of_not, of_rep, of_rule, of_seq, of_first, of_second, RepeatsNothing, repeats}
 use Rattle.meaning.specs.Decide.{empty_nodes}
 use Rattle.meaning.proofs.Choose.{by_test}
 use Rattle.meaning.proofs.Decided.{node_empty_iff}
-use Rattle.layout.specs.declared.Survey.{Survey}
 use Rattle.layout.specs.Table.{nodes_of, kind_of, a_of, b_of, decode, grammar_of}
 use Rattle.layout.specs.Layout.{READ, verdict, first_fault, layout_of, Laid}
-use Rattle.layout.specs.Survey.{is_repetition, FirstOf, Surveyed}
+use Rattle.layout.specs.Survey.{is_repetition, FirstOf, Survey, Surveyed}
 use Rattle.layout.proofs.Laying.{closed, node_count, node_as, bounds_as}
 use Rattle.layout.proofs.Stops.{skipped}
 use Rattle.layout.proofs.Cases.{search_none}
+use Rattle.layout.proofs.First.{first_here, first_nowhere}
 use Rattle.empties.specs.Empties.{EmptyNodes}
 use Rattle.empties.proofs.Once.{together}
 use Rattle.sheet.specs.Check.{LOOP, repeats_one_of, loop_fault, check_of}
@@ -151,6 +152,13 @@ module _ (t : List ℕ) (laid : Laid t) where
       λ n. loop_cases (λ x. x ≡ READ) (λ d. absurd (n d)) (λ m. refl),
     )
 
+-- The first number of a range that passes a test, if there is one.
+pub first_of : (test : ℕ → Bool) (from n : ℕ) → from ≤ n → (r : Option ℕ)
+    → MatchOption r ((k : ℕ) → from ≤ k → k < n → test k ≡ false) (λ i. (from ≤ i) × (i < n) × (test i ≡ true) × ((k : ℕ) → from ≤ k → k < i → test k ≡ false))
+    → FirstOf test from n (unwrap_or r n)
+first_of test from n h None m = first_nowhere test from n n h (omega arith) m
+first_of test from n h (Some i) m = first_here test from i n m.0 (omega arith) m.3 m.2
+
 -- ---- The check, by what the survey of the layout says.
 module _ (t : List ℕ) where
   pub laid_by : (v : Survey) → Surveyed t v → v.code ≡ READ → Laid t
@@ -161,7 +169,8 @@ module _ (t : List ℕ) where
   unfolding check_of
   layout_refuses v s n =
       let other : (layout_of t).code ≢ READ = λ e. n (s.code ∙ e) in
-      rw (ne_eqb (layout_of t).code READ other, s.code, s.place)
+      let row : check_of t ≡ layout_of t = ap (λ (b : Bool). cond b (first_fault (loop_fault t) 0 (nodes_of t)) (layout_of t)) (ne_eqb (layout_of t).code READ other) in
+      rw (s.code, s.place) (sym row)
 
   pub not_laid : (v : Survey) → Surveyed t v → v.code ≢ READ → ¬ Laid t
   unfolding Laid

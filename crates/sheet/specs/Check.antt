@@ -1,14 +1,31 @@
 -- 01, "What comes back", and 02's W-209: the codes of the table check with their places, in their order.
-use Rattle.std.specs.Prelude.{◌≡◌, Bool, false, cond, List, ℕ, get_or}
+use Rattle.std.specs.Prelude.{◌≡◌, Bool, false, cond, List, ℕ, get_or, Result, Ok, Err}
 use Rattle.meaning.specs.Grammar.{Node, empty, range, rule, seq, choice, not, rep, node}
 use Rattle.meaning.specs.Decide.{empty_nodes}
-use Rattle.layout.specs.declared.Verdict.{Verdict}
 use Rattle.layout.specs.Table.{nodes_of, grammar_of}
-use Rattle.layout.specs.Layout.{READ, ◌or_else◌, first_fault, layout_of}
+use Rattle.layout.specs.Layout.{Verdict, READ, verdict, ◌or_else◌, first_fault, layout_of}
+use Rattle.layout.specs.Layout as layout
+use Rattle.sheet.specs.declared.Refusal.{Refusal}
+use Rattle.sheet.specs.declared.Refusal.TheVariants.{Layout, Loop}
 
 -- 02: "17 LOOP".
 abbrev pub LOOP : ℕ
 LOOP = 17
+
+-- A refusal's code.
+abbrev pub code_of : Refusal → ℕ
+code_of (Layout refusal) = layout.code_of refusal
+code_of (Loop i) = LOOP
+
+-- Its place: of LOOP the first such node.
+abbrev pub place_of : Refusal → ℕ
+place_of (Layout refusal) = layout.place_of refusal
+place_of (Loop i) = i
+
+-- The row that a check gives; READ where it refuses nothing.
+abbrev pub verdict_of : Result (Unit {0}) Refusal → Verdict
+verdict_of (Ok accepted) = verdict READ 0
+verdict_of (Err refusal) = verdict (code_of refusal) (place_of refusal)
 
 -- A repetition whose child is among the nodes that may be empty.
 abbrev pub repeats_one_of : List Bool → Node → Bool

@@ -4,12 +4,11 @@ use Rattle.layout.specs.Table.{grammar_of}
 use Rattle.layout.specs.Layout.{Laid}
 use Rattle.empties.specs.Empties.{EmptyRules, EmptyNodes}
 use Rattle.sheet.specs.declared.Examined.{Examined}
-use Rattle.sheet.specs.Check.{check_of}
+use Rattle.sheet.specs.Check.{verdict_of, check_of}
 
--- Code and place are the check's. A table that is laid out well has the nodes marked that may be empty, whether or not it is accepted; else nothing is marked.
+-- The verdict is the check's. A table that is laid out well has the nodes marked that may be empty, whether or not it is accepted; else nothing is marked.
 pub record ExaminedAs (t before after : List ℕ) (x : Examined) : Type 0 where
-  pub code : x.code ≡ (check_of t).code
-  pub place : x.place ≡ (check_of t).place
+  pub verdict : verdict_of x.verdict ≡ check_of t
   pub rules : Laid t → EmptyRules (grammar_of t) x.empty_rules
   pub marks : Laid t → EmptyNodes (grammar_of t) after
   pub refused : ¬ Laid t → (x.empty_rules ≡ 0) × (after ≡ before)

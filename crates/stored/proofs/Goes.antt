@@ -1,18 +1,20 @@
 -- What the code tests of the records, and what the definition says of them.
 use mathlib.Core.Path.{◌≡◌, refl, sym, ap, ◌∙◌}
-use mathlib.Core.List.{List, ◌∷◌}
-use mathlib.Core.Bool.{Bool, false, ◌&&◌, and-false}
+use mathlib.Core.List.{List, [], ◌∷◌, ◌++◌, append-nil, append_assoc}
+use Rattle.stored.specs.declared.Span as code
+use Rattle.stored.specs.declared.Record as code_record
+use Rattle.std.proofs.lemmas.List.{reverse-append, take-append-drop, length-reverse, length-map, length-drop, length-append}
+use mathlib.Core.Bool.{Bool, true, false, cond, ◌&&◌, and-false}
 use native.Mathlib.Omega.{arith}
 use native.Mathlib.Numerals.{add-one, sub-one}
 use native.Mathlib.Nat.{add-zero, mul-suc}
-use Prim.Native.Nat.{ℕ, zero, suc, ◌+◌, ◌-◌, ◌*◌, ◌/◌, ◌%◌, ◌<◌, ◌≤◌}
-use lib.ListN.{length, get_or, set}
-use lib.Seq.{get_or-set_same, get_or-set_other}
-use lib.Dec.{eqb}
-use borrow.Author.Tests.{le-ltb, lt-ltb, le-leb, lt-leb}
+use Prim.Native.Nat.{ℕ, zero, suc, ◌+◌, ◌-◌, ◌*◌, ◌<◌, ◌≤◌}
+use lib.ListN.{length, get_or, take, drop}
+use lib.Dec.{eqb, leb}
+use borrow.Author.Tests.{le-leb, lt-leb}
 use Rattle.stored.specs.Stored.{record_size}
-use Rattle.stored.specs.WellFormed.{number_at, Record, record_at, records_at, all_in_range, Span, fault, untaken, takes, goes, only_last}
-use Rattle.stored.specs.Scratch.{spans_of, left_of, IsRecord}
+use Rattle.stored.specs.WellFormed.{number_at, Record, records_at, in_range, all_in_range, Span, Untaken, fault, untaken, takes, goes, only_last}
+use Rattle.stored.specs.Scratch.{span_of, record_of, spans_of, IsRecord}
 
 pub number_one : (bytes : List ℕ) (p w : ℕ) → w ≡ 1 → get_or bytes p 0 ≡ number_at w bytes p
 unfolding number_at
@@ -23,64 +25,57 @@ unfolding number_at
 number_two bytes p w e = rw (e, add-zero p) (omega arith)
 
 -- Taking children, span by span from the newest.
-module _ (words : List ℕ) (start end : ℕ) where
-  pub take_done : (top n : ℕ) → n ≤ 0 → left_of words (top + 1) ≡ takes n start end (spans_of words top)
-  unfolding left_of takes
-  take_done top n h = let z : n ≡ 0 = omega arith in rw (z, add-one top)
+newest_more : (spans : List code.Span) (s : code.Span) → spans_of (spans ++ (s ∷ [])) ≡ span_of s ∷ spans_of spans
+newest_more spans s = rw (reverse-append spans (s ∷ []))
 
-  pub take_none : (top n : ℕ) → 0 < n → top ≡ 0 → left_of words 0 ≡ takes n start end (spans_of words top)
-  unfolding left_of takes spans_of
-  take_none top zero h z = absurd (omega arith)
-  take_none top (suc n) h z = rw z
+takes_few : (n start end : ℕ) (us : List Span) → length us < n → takes n start end us ≡ fault
+unfolding takes
+takes_few zero start end us h = absurd (omega arith)
+takes_few (suc n) start end [] h = refl
+takes_few (suc n) start end (u ∷ us) h = rw (takes_few n start u.start us (omega arith)) (cond_same (leb u.end end && leb start u.start))
+  where
+    cond_same : (b : Bool) → cond b fault fault ≡ fault
+    cond_same true = refl
+    cond_same false = refl
 
-  pub take_late : (top n : ℕ) → 0 < n → (top ≡ 0 → ⊥) → end < get_or words (top - 1) 0 % 65536 → left_of words 0 ≡ takes n start end (spans_of words top)
-  unfolding left_of takes spans_of
-  take_late top zero h z l = absurd (omega arith)
-  take_late zero (suc n) h z l = absurd (z refl)
-  take_late (suc top) (suc n) h z l = let l' : end < get_or words top 0 % 65536 = rw sub-one at l in rw (lt-leb _ _ l')
+pub length_spans : (spans : List code.Span) → length (spans_of spans) ≡ length spans
+length_spans spans = simp (length-map, length-reverse)
 
-  pub take_early : (top n : ℕ) → 0 < n → (top ≡ 0 → ⊥) → get_or words (top - 1) 0 % 65536 ≤ end → get_or words (top - 1) 0 / 65536 < start
-      → left_of words 0 ≡ takes n start end (spans_of words top)
-  unfolding left_of takes spans_of
-  take_early top zero h z l m = absurd (omega arith)
-  take_early zero (suc n) h z l m = absurd (z refl)
-  take_early (suc top) (suc n) h z l m =
-      let l' : get_or words top 0 % 65536 ≤ end = rw sub-one at l in
-      let m' : get_or words top 0 / 65536 < start = rw sub-one at m in
-      rw (le-leb _ _ l', lt-leb _ _ m')
+module _ (spans : List code.Span) (start : ℕ) where
+  -- What is left to take: the spans from a place on, of which these have not been looked at, the last first.
+  abbrev pub to_take : ℕ → List code.Span → ℕ → Untaken
+  to_take left rest bound = takes (length rest) start bound (spans_of (take left spans ++ rest))
 
-  pub take_more : (top n : ℕ) → 0 < n → (top ≡ 0 → ⊥) → get_or words (top - 1) 0 % 65536 ≤ end → start ≤ get_or words (top - 1) 0 / 65536
-      → takes (n - 1) start (get_or words (top - 1) 0 / 65536) (spans_of words (top - 1)) ≡ takes n start end (spans_of words top)
-  unfolding takes spans_of
-  take_more top zero h z l m = absurd (omega arith)
-  take_more zero (suc n) h z l m = absurd (z refl)
-  take_more (suc top) (suc n) h z l m =
-      let l' : get_or words top 0 % 65536 ≤ end = rw sub-one at l in
-      let m' : start ≤ get_or words top 0 / 65536 = rw sub-one at m in
-      rw (sub-one (suc top), sub-one (suc n)) (rw (le-leb _ _ l', le-leb _ _ m'))
+  pub take_begun : (n left end : ℕ) → n ≤ length spans → left ≡ length spans - n → to_take left (drop left spans) end ≡ takes n start end (spans_of spans)
+  take_begun n left end h e =
+      let l : length (drop left spans) ≡ n = omega (arith, length-drop left spans) in
+      rw (l, take-append-drop left spans)
 
--- The scratch after a span is put on it.
-spans_below : (words : List ℕ) (k v i : ℕ) → i ≤ k → spans_of (set words k v) i ≡ spans_of words i
-unfolding spans_of
-spans_below words k v zero h = refl
-spans_below words k v (suc i) h = rw (get_or-set_other words k i v 0 (omega arith), spans_below words k v i (omega arith))
+  pub take_none : (n end : ℕ) → (n ≤ length spans → ⊥) → fault ≡ takes n start end (spans_of spans)
+  take_none n end h = sym (takes_few n start end (spans_of spans) (omega (arith, length_spans spans)))
 
-spans_put : (words : List ℕ) (k x y : ℕ) → k < length words → x < 65536 → y < 65536 → spans_of (set words k (x * 65536 + y)) (suc k) ≡ record { start = x; end = y } ∷ spans_of words k
-unfolding spans_of
-spans_put words k x y h hx hy =
-    let a : (x * 65536 + y) / 65536 ≡ x = omega arith in
-    let b : (x * 65536 + y) % 65536 ≡ y = omega arith in
-    rw (get_or-set_same words k (x * 65536 + y) 0 h, spans_below words k (x * 65536 + y) k (omega arith)) (rw (a, b))
+  module _ (left bound : ℕ) (rest after : List code.Span) (s : code.Span) (e : rest ≡ after ++ (s ∷ [])) where
+    opened : to_take left rest bound ≡ cond (leb s.end bound && leb start s.start) (to_take left after s.start) fault
+    unfolding takes
+    opened =
+        let l : length rest ≡ suc (length after) = ap length e ∙ length-append after (s ∷ []) ∙ add-one (length after) in
+        let n : spans_of (take left spans ++ rest) ≡ span_of s ∷ spans_of (take left spans ++ after) =
+        rw (e, sym (append_assoc (take left spans) after (s ∷ []))) (newest_more (take left spans ++ after) s) in
+        rw (l, n)
 
-length_spans : (words : List ℕ) (i : ℕ) → length (spans_of words i) ≡ i
-unfolding spans_of
-length_spans words zero = refl
-length_spans words (suc i) = ap suc (length_spans words i)
+    pub take_late : bound < s.end → fault ≡ to_take left rest bound
+    take_late h = sym (opened ∙ rw (lt-leb _ _ h))
 
-left_not : (words : List ℕ) (next : ℕ) → (next ≡ 0 → ⊥) → left_of words next ≡ untaken (spans_of words (next - 1))
-unfolding left_of
-left_not words zero h = absurd (h refl)
-left_not words (suc n) h = rw (sub-one (suc n))
+    pub take_early : s.end ≤ bound → s.start < start → fault ≡ to_take left rest bound
+    take_early h k = sym (opened ∙ rw (le-leb _ _ h, lt-leb _ _ k))
+
+    pub take_more : s.end ≤ bound → start ≤ s.start → to_take left after s.start ≡ to_take left rest bound
+    take_more h k = sym (opened ∙ rw (le-leb _ _ h, le-leb _ _ k))
+
+  pub take_ended : (left bound : ℕ) (rest : List code.Span) → length rest ≡ 0 → to_take left rest bound ≡ untaken (spans_of (take left spans))
+  unfolding takes
+  take_ended left bound [] h = rw (append-nil (take left spans))
+  take_ended left bound (s ∷ rest) h = absurd (omega arith)
 
 pub one_more : (w n : ℕ) → 0 < n → record_size w * n ≡ record_size w * (n - 1) + record_size w
 one_more w zero h = absurd (omega arith)
@@ -90,45 +85,30 @@ one_more w (suc n) h = rw (sub-one (suc n)) (mul-suc (record_size w) n)
 abbrev pub rest : ℕ → ℕ → List Record → List Span → Bool
 rest r l xs us = all_in_range r l xs && only_last (goes xs us)
 
-pub none_left : (words : List ℕ) (r l w : ℕ) (bytes : List ℕ) (p n top : ℕ) (y : Bool) → n ≤ 0 → rest r l (records_at w bytes p n) (spans_of words top) ≡ y → eqb top 1 ≡ y
+pub none_left : (spans : List code.Span) (r l w : ℕ) (bytes : List ℕ) (p n : ℕ) (y : Bool) → n ≤ 0 → rest r l (records_at w bytes p n) (spans_of spans) ≡ y → eqb (length spans) 1 ≡ y
 unfolding only_last all_in_range goes records_at
-none_left words r l w bytes p n top y h e = let z : n ≡ 0 = omega arith in let e' : eqb (length (spans_of words top)) 1 ≡ y = rw z at e in sym (ap (λ k. eqb k 1) (length_spans words top)) ∙ e'
+none_left spans r l w bytes p n y h e =
+    let z : n ≡ 0 = omega arith in
+    let e' : eqb (length (spans_of spans)) 1 ≡ y = rw z at e in
+    sym (ap (λ k. eqb k 1) (length_spans spans)) ∙ e'
 
--- The next record, as it was read: its rule, its span and its number of children.
-module _ (r l w : ℕ) (bytes words : List ℕ) (p n top rule start end number : ℕ) (y : Bool) (h : 0 < n)
-    (x : IsRecord w bytes p rule start end number) (same : rest r l (records_at w bytes p n) (spans_of words top) ≡ y) where
-  opens : records_at w bytes p n ≡ record { rule = rule; start = start; end = end; number = number } ∷ records_at w bytes (p + record_size w) (n - 1)
-  unfolding records_at record_at
-  opens = rw (x.rule_is, x.start_is, x.end_is, x.number_is) (let b : n ≡ suc (n - 1) = omega arith in ap (records_at w bytes p) b)
+-- The next record, as it was read, and the spans not yet taken.
+module _ (r l w : ℕ) (bytes : List ℕ) (spans : List code.Span) (p n : ℕ) (x : code_record.Record) (y : Bool) (h : 0 < n) (is : IsRecord w bytes p x)
+    (same : rest r l (records_at w bytes p n) (spans_of spans) ≡ y) where
+  read : rest r l (record_of x ∷ records_at w bytes (p + record_size w) (n - 1)) (spans_of spans) ≡ y
+  unfolding records_at
+  read = let b : n ≡ suc (n - 1) = omega arith in rw (b, sym is) at same
 
-  opened : rest r l (record { rule = rule; start = start; end = end; number = number } ∷ records_at w bytes (p + record_size w) (n - 1)) (spans_of words top) ≡ y
-  opened = rw opens at same
-
-  pub read_rule : r ≤ rule → false ≡ y
+  pub read_outside : false ≡ in_range r l (record_of x) → false ≡ y
   unfolding all_in_range
-  read_rule t = rw (le-ltb rule r t) at opened
+  read_outside e = rw (sym e) at read
 
-  module _ (t : rule < r) where
-    pub read_order : end < start → false ≡ y
-    unfolding all_in_range
-    read_order u = rw (lt-ltb rule r t, lt-leb start end u) at opened
+  module _ (inside : true ≡ in_range r l (record_of x)) where
+    pub read_fault : fault ≡ takes x.children x.span.start x.span.end (spans_of spans) → false ≡ y
+    unfolding all_in_range goes only_last
+    read_fault e = sym (and-false (all_in_range r l _)) ∙ (rw (sym inside, sym e) at read)
 
-    module _ (u : start ≤ end) where
-      pub read_end : l < end → false ≡ y
-      unfolding all_in_range
-      read_end v = rw (lt-ltb rule r t, le-leb start end u, lt-leb end l v) at opened
-
-      module _ (v : end ≤ l) (next : ℕ) (e : left_of words next ≡ takes number start end (spans_of words top)) where
-        pub read_fault : next ≡ 0 → false ≡ y
-        unfolding left_of goes only_last
-        read_fault z = let f : takes number start end (spans_of words top) ≡ fault = sym e ∙ ap (left_of words) z in sym (and-false (all_in_range r l _)) ∙ (rw f at opened)
-
-        pub read_more : (next ≡ 0 → ⊥) → next - 1 < length words
-            → rest r l (records_at w bytes (p + record_size w) (n - 1)) (spans_of (set words (next - 1) (start * 65536 + end)) next) ≡ y
-        unfolding all_in_range goes
-        read_more z k =
-            let b : next ≡ suc (next - 1) = omega arith in
-            let f : takes number start end (spans_of words top) ≡ untaken (spans_of words (next - 1)) = sym e ∙ left_not words next z in
-            let s : spans_of (set words (next - 1) (start * 65536 + end)) next ≡ record { start = start; end = end } ∷ spans_of words (next - 1) =
-            ap (spans_of (set words (next - 1) (start * 65536 + end))) b ∙ spans_put words (next - 1) start end k x.start_low x.end_low in
-            rw s (rw (lt-ltb rule r t, le-leb start end u, le-leb end l v, f) at opened)
+    pub read_more : (after : List code.Span) (i next left : ℕ) → after ≡ take i spans ++ (x.span ∷ []) → next ≡ p + record_size w → left ≡ n - 1
+        → untaken (spans_of (take i spans)) ≡ takes x.children x.span.start x.span.end (spans_of spans) → rest r l (records_at w bytes next left) (spans_of after) ≡ y
+    unfolding all_in_range goes
+    read_more after i next left put en el e = rw (put, en, el, newest_more (take i spans) x.span) (rw (sym inside, sym e) at read)

@@ -9,12 +9,14 @@
 // for its lines.
 #![tactic(auto)]
 
-ghost use Rattle.std.specs.Prelude.{◌≡◌, ℕ, ◌+◌, ◌*◌, ◌%◌, ◌<◌, ◌≤◌, [], ◌&&◌, length};
+ghost use Rattle.std.specs.Prelude.{◌≡◌, ℕ, ◌+◌, ◌*◌, ◌<◌, ◌≤◌, [], ◌&&◌, length, MatchOption};
 ghost use Rattle.std.proofs.lemmas.List.Edits.{sets};
 ghost use Rattle.stored.specs.Version.{version_of};
 ghost use Rattle.stored.specs.Stored.{in_bytes, record_size, record_bytes, stored_length, head_bytes};
-ghost use Rattle.stored.specs.WellFormed.{number_at, records_at, all_in_range, takes, goes, only_last, well_formed_of, is_well_formed};
-ghost use Rattle.stored.specs.Scratch.{spans_of, left_of, IsRecord};
+ghost use Rattle.stored.specs.WellFormed.{number_at, records_at, in_range, all_in_range, takes, goes, only_last, well_formed_of, is_well_formed};
+ghost use Rattle.stored.specs.Scratch.{spans_of, left_of, record_of, IsRecord, head_agrees};
+
+use arrayvec::ArrayVec;
 
 // No longer line is read, and nothing is well formed for one.
 pub const LONGEST_LINE: usize = 4000;
@@ -22,16 +24,25 @@ pub const LONGEST_LINE: usize = 4000;
 // The longest line whose positions stand in one byte.
 const LONGEST_IN_ONE_BYTE: usize = 255;
 
-// The version that a line of so many bytes gives: the bytes of a position.
+// The version that a line of so many bytes gives: the bytes of a position. It is a number and no enum, since what is promised of stored bytes is said over that number.
 #[tactic(auto, unfolding(crate::specs::Version::version_of))]
 pub fn version_of(line_length: usize) -> usize
     ensures is { result ≡ version_of line_length }
     ensures widths { (0 < result) × (result ≤ 2) }
 {
     if line_length <= LONGEST_IN_ONE_BYTE {
-        return 1;
+        1
+    } else {
+        2
     }
-    2
+}
+
+// The bytes of a record, with so many to a position.
+pub fn record_size(width: usize) -> usize
+    requires { width ≤ 2 }
+    ensures { result ≡ record_size width }
+{
+    3 + 2 * width
 }
 
 // The bytes of a stored reading with so many records.
@@ -39,35 +50,27 @@ pub fn stored_length(width: usize, records: u32) -> u32
     requires { (width ≤ 2) × (records < 65536) }
     ensures { result ≡ stored_length width records }
 {
-    5 + (3 + 2 * width as u32) * records
+    5 + record_size(width) as u32 * records
 }
 
-fn wide(x: u8) -> u32
-    ensures { (result ≡ x) × (result < 256) }
-{
-    x as u32
-}
-
-fn byte(n: u32) -> u8
-    ensures { result ≡ n % 256 }
-{
-    (n % 256) as u8
-}
-
-// Writes a number in one or two bytes, the highest first.
+// Writes a number in one or two bytes, the highest first. Copying the last `width` of them by `copy_from_slice` makes a long sum's reading 215,117 instructions, where so it is 205,133.
+// The bounds of the width are asked of a number: the public functions promise over it, and a struct for it would be made in each of them.
+#[tactic(auto, using(crate::proofs::Bytes::put_one, crate::proofs::Bytes::put_two))]
 fn put_number(room: &mut [u8], at: usize, width: usize, n: u32)
     requires { (at + width ≤ length room.old) × ((0 < width) × (width ≤ 2)) }
     ensures { room.new ≡ sets room.old at (in_bytes width n) }
 {
+    let [_, _, high, low] = n.to_be_bytes();
     if width == 1 {
-        room[at] = byte(n);
-        return;
+        room[at] = low;
+    } else {
+        room[at] = high;
+        room[at + 1] = low;
     }
-    room[at] = byte(n / 256);
-    room[at + 1] = byte(n);
 }
 
 // Writes a record from at on, and says where it ends.
+#[tactic(auto, using(crate::proofs::Bytes::record_put))]
 pub fn put_record(
     room: &mut [u8],
     width: usize,
@@ -88,150 +91,136 @@ pub fn put_record(
 }
 
 // Writes version, length and record count at the room's front.
+#[tactic(auto, using(crate::proofs::Bytes::head_put))]
 pub fn put_head(room: &mut [u8], width: usize, records: u32)
     requires { ((5 ≤ length room.old) × (records < 65536)) × ((0 < width) × (width ≤ 2)) }
     ensures { room.new ≡ sets room.old 0 (head_bytes width records) }
 {
-    let version = width as u32;
-    put_number(room, 0, 1, version);
+    put_number(room, 0, 1, width as u32);
     put_number(room, 1, 2, stored_length(width, records));
     put_number(room, 3, 2, records);
 }
 
 // The number in one or two bytes from at on.
-fn number_at(bytes: &[u8], at: usize, width: usize) -> u32
+// The width is a number with its bounds, as in put_number.
+#[tactic(auto, using(crate::proofs::Goes::number_one, crate::proofs::Goes::number_two))]
+fn number_at(bytes: &[u8], at: usize, width: usize) -> u16
     requires { (at + width ≤ length bytes.now) × ((0 < width) × (width ≤ 2)) }
-    ensures { (result ≡ number_at width bytes.now at) × (result < 65536) }
+    ensures { result ≡ number_at width bytes.now at }
 {
-    let high = wide(bytes[at]);
     if width == 1 {
-        return high;
+        u16::from(bytes[at])
+    } else {
+        u16::from_be_bytes([bytes[at], bytes[at + 1]])
     }
-    high * 256 + wide(bytes[at + 1])
+}
+
+// From where to where in the line.
+#[derive(Clone, Copy, Default)]
+struct Span {
+    start: u16,
+    end: u16,
+}
+
+#[derive(Clone, Copy)]
+struct Record {
+    rule: u8,
+    span: Span,
+    children: u16,
 }
 
 // The record from at on.
-#[derive(Drop)]
-struct Record {
-    rule: u32,
-    start: u32,
-    end: u32,
-    number: u32,
-}
-
+// The width is a number with its bounds, as in put_number.
+#[tactic(auto, unfolding(crate::specs::WellFormed::record_at))]
 fn record_at(bytes: &[u8], at: usize, width: usize) -> Record
     requires { (at + record_size width ≤ length bytes.now) × ((0 < width) × (width ≤ 2)) }
-    ensures { IsRecord width bytes.now at result.rule result.start result.end result.number }
+    ensures { IsRecord width bytes.now at result }
 {
-    let rule = wide(bytes[at]);
-    let start = number_at(bytes, at + 1, width);
-    let end = number_at(bytes, at + 1 + width, width);
-    let number = number_at(bytes, at + 1 + width + width, 2);
     Record {
-        rule,
-        start,
-        end,
-        number,
+        rule: bytes[at],
+        span: Span {
+            start: number_at(bytes, at + 1, width),
+            end: number_at(bytes, at + 1 + width, width),
+        },
+        children: number_at(bytes, at + 1 + width + width, 2),
     }
 }
 
-// Takes the newest spans: 1 more than how many are left, or 0 for a fault.
-fn take_children(spans: &[u32], size: usize, number: u32, start: u32, end: u32) -> usize
-    requires { size ≤ length spans.now }
-    ensures { (left_of spans.now result ≡ takes number start end (spans_of spans.now size)) × (result ≤ size + 1) }
+impl Record {
+    // Whether the rule and the span are of so many rules and a line of so many bytes.
+    fn in_range(self, rules: u32, line_length: u32) -> bool
+        ensures { result ≡ in_range rules line_length (record_of self) }
+    {
+        u32::from(self.rule) < rules
+            && self.span.start <= self.span.end
+            && u32::from(self.span.end) <= line_length
+    }
+}
+
+// Takes a record's children from the newest spans: how many are left, or none for a fault.
+fn take_children(spans: &[Span], parent: Record) -> Option<usize>
+    ensures taken { left_of spans.now result ≡ takes parent.children parent.span.start parent.span.end (spans_of spans.now) }
+    ensures within { MatchOption result Unit (λ left. left ≤ length spans.now) }
 {
-    let mut left = number;
-    let mut top = size;
-    let mut bound = end;
-    while 0 < left {
-        if top == 0 {
-            return 0;
+    let left = spans.len().checked_sub(usize::from(parent.children))?;
+    let mut bound = parent.span.end;
+    for child in spans[left..].iter().rev() {
+        if bound < child.end || child.start < parent.span.start {
+            return None;
         }
-        let span = spans[top - 1];
-        let from = span / 65536;
-        if bound < span % 65536 {
-            return 0;
-        }
-        if from < start {
-            return 0;
-        }
-        bound = from;
-        top -= 1;
-        left -= 1;
+        bound = child.start;
     }
-    top + 1
+    Some(left)
 }
 
-// Goes through the records, from the first to the last.
-fn go_through(
-    bytes: &[u8],
-    spans: &mut [u32],
-    width: usize,
-    rules: u32,
-    line_length: u32,
-    records: usize,
-) -> bool
-    requires room { (5 + record_size width * records ≤ length bytes.now) × (records ≤ length spans.old) }
+// Goes through the records, from the first to the last, with the spans not yet taken, the newest last. They lie in the call itself, so nothing is
+// allocated.
+// The width is a number with its bounds, as in put_number.
+fn go_through(bytes: &[u8], width: usize, rules: u32, line_length: u32, records: usize) -> bool
+    requires room { (5 + record_size width * records ≤ length bytes.now) × (records ≤ 13106) }
     requires widths { (0 < width) × (width ≤ 2) }
     ensures { result ≡ (all_in_range rules line_length (records_at width bytes.now 5 records) && only_last (goes (records_at width bytes.now 5 records) [])) }
 {
-    let mut at = 5;
-    let mut left = records;
-    let mut top = 0;
-    while 0 < left {
-        let x = record_at(bytes, at, width);
-        if rules <= x.rule {
+    let mut spans: ArrayVec<Span, 13106> = ArrayVec::new();
+    for k in 0..records {
+        let record = record_at(bytes, 5 + record_size(width) * k, width);
+        if !record.in_range(rules, line_length) {
             return false;
         }
-        if x.end < x.start {
+        let Some(left) = take_children(spans.as_slice(), record) else {
             return false;
-        }
-        if line_length < x.end {
-            return false;
-        }
-        let next = take_children(spans, top, x.number, x.start, x.end);
-        if next == 0 {
-            return false;
-        }
-        spans[next - 1] = x.start * 65536 + x.end;
-        top = next;
-        at = at + (3 + 2 * width);
-        left -= 1;
+        };
+        spans.truncate(left);
+        spans.push(record.span);
     }
-    top == 1
+    spans.len() == 1
 }
 
-// Whether the bytes are well formed, with so many bytes to a position. No slice whose length stands in two bytes has more records than the scratch.
+// Whether the head has this version, and the length and the record count that the slice has.
+// The width is a number with its bounds, as in put_number.
+fn head_agrees(bytes: &[u8], width: usize) -> bool
+    requires { (5 ≤ length bytes.now) × ((0 < width) × (width ≤ 2)) }
+    ensures { result ≡ head_agrees width bytes.now }
+{
+    let length = usize::from(number_at(bytes, 1, 2));
+    let records = u32::from(number_at(bytes, 3, 2));
+    usize::from(bytes[0]) == width
+        && length == bytes.len()
+        && stored_length(width, records) as usize == length
+        && 0 < records
+}
+
+// Whether the bytes are well formed, with so many bytes to a position. No slice whose length stands in two bytes has more than 13,106 records.
+// The width is a number with its bounds, as in put_number.
 fn well_formed_by(bytes: &[u8], width: usize, rules: u32, line_length: u32) -> bool
     requires { (0 < width) × (width ≤ 2) }
     ensures { result ≡ well_formed_of width rules line_length bytes.now }
 {
-    if bytes.len() < 5 {
+    if bytes.len() < 5 || !head_agrees(bytes, width) {
         return false;
     }
-    if wide(bytes[0]) as usize != width {
-        return false;
-    }
-    let length = number_at(bytes, 1, 2) as usize;
-    if length != bytes.len() {
-        return false;
-    }
-    let records = number_at(bytes, 3, 2);
-    if stored_length(width, records) as usize != length {
-        return false;
-    }
-    if records == 0 {
-        return false;
-    }
-    let mut spans = [0u32; 13106];
-    go_through(
-        bytes,
-        &mut spans,
-        width,
-        rules,
-        line_length,
-        records as usize,
-    )
+    let records = usize::from(number_at(bytes, 3, 2));
+    go_through(bytes, width, rules, line_length, records)
 }
 
 // Whether a stored reading is well formed for so many rules and a line of so many bytes: each version only for its lines.
@@ -239,8 +228,5 @@ pub fn well_formed(stored: &[u8], rules: u32, line_length: u32) -> bool
     ensures { result ≡ is_well_formed rules line_length stored.now }
 {
     let long = line_length as usize;
-    if LONGEST_LINE < long {
-        return false;
-    }
-    well_formed_by(stored, version_of(long), rules, line_length)
+    long <= LONGEST_LINE && well_formed_by(stored, version_of(long), rules, line_length)
 }

@@ -8,7 +8,7 @@ use native.Mathlib.Omega.{arith}
 use lib.ListN.{length, set}
 use Rattle.meaning.specs.Grammar.{Note}
 use Rattle.meaning.specs.Reading.{State, Run}
-use Rattle.visits.specs.Given.{Given, keeps_in, allowance_in, left_in, live_in, pos_in, Moved}
+use Rattle.visits.specs.Given.{Given, a_in, keeps_in, allowance_in, left_in, live_in, pos_in, Moved}
 use Rattle.visits.specs.Words.{key_of, top_in, made_in, Words}
 use Rattle.visits.specs.Says.{Came, Visits, after_visit, reading, Starts, Ends, EndsVisit}
 use Rattle.visits.proofs.Frame.{written_same, written_words, written_top, count_made}
@@ -112,3 +112,9 @@ module _ (given : Given) (line : List ℕ) where
     pub ends_moved : {w w' : List ℕ} (r : ℕ) → EndsVisit given line w w' new r (λ l s. reading given line (left_in new) l node (pos_in new) s)
         → Visits given line w w' (live_in spot) pos (made_in w) (top_in w) (after_visit r w') (λ l s. reading given line (left_in spot) l node pos s)
     ends_moved r e = rw (m.left, m.live, m.there) at e
+
+-- A repetition's child was visited at a spot of the same row: the same visit, by where the repetition stands.
+pub child_visited : (given : Given) (line : List ℕ) (spot i : ℕ) {here x : ℕ} → Moved spot (pos_in here) here → x ≡ a_in given i → {w w' : List ℕ} (r : ℕ)
+    → EndsVisit given line w w' here r (λ l s. reading given line (left_in here) l x (pos_in here) s)
+    → Visits given line w w' (live_in spot) (pos_in here) (made_in w) (top_in w) (after_visit r w') (λ l s. reading given line (left_in spot) l (a_in given i) (pos_in here) s)
+child_visited given line spot i m is r e = rw is at (ends_moved given line m _ r e)

@@ -1,5 +1,6 @@
 -- A visit before its work: EFFORT, DEEP, or one visit more that is counted and open.
 use mathlib.Core.Path.{◌≡◌, refl, sym, ap, ◌∙◌}
+use mathlib.Core.Logic.{◌≢◌}
 use mathlib.Core.Bool.{true, false}
 use mathlib.Core.List.{List}
 use Prim.Native.Nat.{ℕ, zero, suc, ◌+◌, ◌*◌, ◌<◌, ◌≤◌, max}
@@ -12,7 +13,9 @@ use Rattle.meaning.specs.Reading.{State, spent, asked, Run, deep, done, Visit, b
 use Rattle.meaning.proofs.InPlace.{visit_out, visit_open}
 use Rattle.meaning.proofs.Spans.{fits_inside}
 use Rattle.visits.specs.Given.{Given, allowance_in, way_in, grammar_in, Fit}
-use Rattle.visits.specs.Words.{furthest_in, reached_in, Stands, Words}
+use Rattle.visits.specs.declared.Refusal.{Refusal}
+use Rattle.visits.specs.declared.Refusal.TheVariants.{Effort, Deep}
+use Rattle.visits.specs.Words.{code_of, furthest_in, reached_in, Stands, Words}
 use Rattle.visits.specs.Says.{Visited, FAILED, STOPPED, end_of, Came}
 use Rattle.visits.proofs.Frame.{written_same, count_stands, reach_stands}
 use Rattle.visits.proofs.Steps.{came_after, came_as, still}
@@ -100,3 +103,8 @@ module _ (line : List ℕ) (lo hi x found : ℕ) (is : found ≡ get_or line x 0
 pub range_past : (line : List ℕ) (lo hi x : ℕ) → length line ≤ x → FAILED ≡ end_of (byte x (fits line lo hi x))
 unfolding end_of byte fits
 range_past line lo hi x h = rw (le-ltb _ _ h) refl
+
+-- A refusal has a code, which is no 0.
+pub code_some : (refusal : Refusal) → code_of refusal ≢ 0
+code_some Effort = λ z. absurd (omega (arith, z))
+code_some Deep = λ z. absurd (omega (arith, z))

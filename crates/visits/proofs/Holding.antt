@@ -24,22 +24,25 @@ pub found_none : (given : Given) (w : List ℕ) (spot rule r : ℕ) → FoundUse
 found_none given w spot rule r (inl still) none grows = clash grows still.0
 found_none given w spot rule r (inr found) none grows = found.1.none none
 
-module _ (given : Given) (line w : List ℕ) (spot root rule pos found r : ℕ) (ready : Starts given line w spot root pos) (plain : keeps_in given ≡ false) (growing : grows_in given rule ≡ true) (small : rule < 64)
-    (search : Found w (live_in spot) (key_of rule pos) found) (some : 0 < found) (holds : Holds w (found - 1) r) (there : pos ≡ pos_in spot) where
-  live : found - 1 < live_in spot
-  live = omega (arith, some, search.within)
+module _ (given : Given) (line w : List ℕ) (spot root rule pos i r : ℕ) (ready : Starts given line w spot root pos) (plain : keeps_in given ≡ false) (growing : grows_in given rule ≡ true) (small : rule < 64)
+    (search : Found w (live_in spot) (key_of rule pos) (i + 1)) (holds : Holds w i r) (there : pos ≡ pos_in spot) where
+  live : i < live_in spot
+  live = omega (arith, search.within)
+
+  key : get_or w (i * 3) 0 ≡ key_of rule pos
+  key = let e : i + 1 - 1 ≡ i = omega arith in rw e at (search.is (omega arith))
 
   pub answers_held : Ends given line w w spot r (λ l s. uses given line (left_in spot) l rule pos s)
   answers_held = record {
-    came = by_same (get_or w ((found - 1) * 3 + 2) 0) 0
+    came = by_same (get_or w (i * 3 + 2) 0) 0
         (λ e.
         came_at given line ready.fit.short (end_in r) (list_in r) (top_in w) (made_in w) (holds.failed e).0 (holds.failed e).1 refl refl
-        (uses_grows given line ready.fit (left_in spot) rule pos plain growing (held_fail given line ready.fit (reading given line (left_in spot)) rule pos (found - 1) ready.words ready.made_within small live (search.is some) e)))
+        (uses_grows given line ready.fit (left_in spot) rule pos plain growing (held_fail given line ready.fit (reading given line (left_in spot)) rule pos i ready.words ready.made_within small live (key) e)))
         (λ n.
         came_at given line ready.fit.short (end_in r) (list_in r) (top_in w) (made_in w) (holds.matched n).0 (holds.matched n).1 refl refl
-        (uses_grows given line ready.fit (left_in spot) rule pos plain growing (held_match given line ready.fit (reading given line (left_in spot)) rule pos (found - 1) ready.words ready.made_within small live (search.is some) n)));
+        (uses_grows given line ready.fit (left_in spot) rule pos plain growing (held_match given line ready.fit (reading given line (left_in spot)) rule pos i ready.words ready.made_within small live (key) n)));
     cells = omega arith;
-    ahead = λ p. by_same (get_or w ((found - 1) * 3 + 2) 0) 0
+    ahead = λ p. by_same (get_or w (i * 3 + 2) 0) 0
         (λ e. omega (arith, (holds.failed e).0, there, ready.pos_within, ready.fit.short))
-        (λ n. omega (arith, (holds.matched n).0, there, (ready.order p).ahead (found - 1) live n, search.is some));
+        (λ n. omega (arith, (holds.matched n).0, there, (ready.order p).ahead i live n, key));
   }

@@ -139,19 +139,9 @@ module _ (given : Given) (line w : List ℕ) (spot node pos : ℕ) (ready : Star
       })
   refused (inr (inr h)) n r e f low = absurd (n h.2)
 
-  pub refused_small : Entered (lent [] given.numbers) w w₁ spot code → code ≤ 12
-  refused_small (inl h) = let is : code ≡ 11 = h.1 in omega arith
-  refused_small (inr (inl h)) = let is : code ≡ 12 = h.2 in omega arith
-  refused_small (inr (inr h)) = let is : code ≡ 0 = h.2 in omega arith
-
 -- A visit that is not refused is counted.
 pub entered_open : (given : Given) (line w : List ℕ) (spot node : ℕ) → Starts given line w spot node (pos_in spot) → {w₁ : List ℕ} {code : ℕ} → Entered (lent [] given.numbers) w w₁ spot code → code ≡ 0
     → Opened given line w w₁ spot node
 entered_open given line w spot node ready {code = code} (inl h) z = let is : code ≡ 11 = h.1 in absurd (omega arith)
 entered_open given line w spot node ready {code = code} (inr (inl h)) z = let is : code ≡ 12 = h.2 in absurd (omega arith)
 entered_open given line w spot node ready (inr (inr h)) z = counts given line w spot node ready h.0 h.1 h.3
-
--- The word of a pair is read, from the words w, which stay.
-pub record Looked (given : Given) (w w₁ : List ℕ) (spot node word : ℕ) : Type 0 where
-  pub same : w₁ ≡ w
-  pub is : word ≡ get_or w (place_in given node (pos_in spot)) 0

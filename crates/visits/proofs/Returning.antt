@@ -110,9 +110,6 @@ module _ (given : Given) (line : List ℕ) (spot i before : ℕ) where
       pub keep_ready : {end : ℕ} → end ≡ end_in r → Roomy (lent [] given.numbers) w i at × (end ≤ FAILED)
       keep_ready {end} e = (roomy given line w i at start.fit start.free long start.node_in go.at_in, omega (arith, e, go.end, start.end_most))
 
-      pub nearer : n ≢ before → n - 1 < n
-      nearer more = omega (arith, least)
-
       -- The answer is kept, which leaves the words w₁.
       module _ (more : n ≢ before) {end list : ℕ} (ends : end ≡ end_in r) (lists : list ≡ list_in r) {w₁ : List ℕ} (k : Kept (lent [] given.numbers) w w₁ i at end list) where
         kept : Kept (lent [] given.numbers) w w₁ i at (end_in r) (list_in r)
@@ -235,11 +232,9 @@ module _ (given : Given) (line : List ℕ) (spot i before : ℕ) where
       none_left e [] h v made top m c = came_as given line start.fit.short _ c (λ l s. back_none i at (m l s))
       none_left e (t ∷ ts) h v made top m c = let z : n ≡ h.0 + 1 = h.1 in absurd (omega (arith, waiting_least given line w (top_in w) before h.0 ts h.3))
 
-      pub room_turns : 2048 ≤ length w
-      room_turns = omega (arith, long)
-
-      pub gone_back : n ≡ before → {new : List ℕ} → new ≡ lowered w before → Returned given line w₀ new spot i before r₀ r
-      gone_back e is =
+      pub gone_back : n ≤ before → {new : List ℕ} → new ≡ lowered w before → Returned given line w₀ new spot i before r₀ r
+      gone_back none is =
+          let e : n ≡ before = omega (arith, none, least) in
           let top : top_in (lowered w before) ≡ top_in w = lowered_top w before in
           let visits : made_in (lowered w before) ≡ made_in w = lowered_made w before in
           rw is (record {

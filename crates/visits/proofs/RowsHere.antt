@@ -23,11 +23,6 @@ use Rattle.visits.proofs.Rowing.{Row, row_begins, row_refused, row_ends, row_eff
 abbrev pub RowIn : (given : Given) (line : List ℕ) (spot i : ℕ) (w₀ w : List ℕ) (x list : ℕ) → Type 0
 RowIn given line spot i w₀ w x list = Row given line (left_in spot) i (live_in spot) w₀ (pos_in spot) (made_in w₀) (top_in w₀) w x list (made_in w) (top_in w)
 
--- The code of a visit in place is small.
-pub full_small : {A B C D : Type 0} {code : ℕ} → (A × (code ≡ 11) × B) ⊎ (C × (code ≡ 0) × D) → code ≤ 11
-full_small {code = code} (inl e) = let is : code ≡ 11 = e.1 in omega arith
-full_small {code = code} (inr e) = let is : code ≡ 0 = e.1 in omega arith
-
 -- A visit in place that is not refused is counted.
 pub counts : (given : Given) (w w' : List ℕ) (code : ℕ) → EnteredInPlace given w w' code → code ≡ 0 → (made_in w < allowance_in given) × (w' ≡ set w 2043 (made_in w + 1))
 counts given w w' code (inl e) z = let is : code ≡ 11 = e.1 in absurd (omega arith)

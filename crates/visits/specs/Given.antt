@@ -1,6 +1,7 @@
 -- What a reading is given: the table of the sheet, and four numbers, the allowance, how many answers are kept for each position, where the nodes start in the table, and
 -- the rules whose uses become live where answers aren't kept.
-use Rattle.std.specs.Prelude.{ℕ, ◌+◌, ◌*◌, ◌/◌, ◌%◌, ◌<◌, ◌≤◌, ◌≡◌, ◌⊎◌, Bool, true, List, length, get_or, ltb}
+use Rattle.std.specs.Prelude.{ℕ, ◌+◌, ◌*◌, ◌/◌, ◌%◌, ◌<◌, ◌≤◌, ◌≡◌, ◌⊎◌, Bool, true, List, [], ◌∷◌, length, get_or, ltb}
+use Rattle.visits.specs.declared.Given as code
 use Rattle.bits.specs.Mask.{has}
 use Rattle.meaning.specs.Grammar.{Grammar}
 use Rattle.meaning.specs.Reading.{Way, way_of}
@@ -11,6 +12,10 @@ pub use Rattle.stored.specs.Version.{longest_line}
 pub record Given : Type 0 where
   pub table : List ℕ
   pub numbers : List ℕ
+
+-- The four numbers as the code is lent them, in this order.
+abbrev pub numbers : code.Given → List ℕ
+numbers given = given.allowance ∷ given.kept_each ∷ given.first_node ∷ given.growing ∷ []
 
 abbrev pub lent : List ℕ → List ℕ → Given
 lent table numbers = record { table = table; numbers = numbers }

@@ -1,5 +1,5 @@
 -- What the functions of a visit ask, and what their results say of the reading.
-use Rattle.std.specs.Prelude.{ℕ, suc, ◌+◌, ◌-◌, ◌*◌, ◌/◌, ◌%◌, ◌<◌, ◌≤◌, ◌≡◌, List, [], ◌∷◌, ◌≢◌, length, get_or, set, true, false}
+use Rattle.std.specs.Prelude.{ℕ, suc, ◌+◌, ◌-◌, ◌*◌, ◌/◌, ◌%◌, ◌<◌, ◌≤◌, ◌≡◌, List, [], ◌∷◌, ◌≢◌, length, get_or, set, true, false, Option, Some, None}
 use Rattle.meaning.specs.Grammar.{Answer, fail, ok, fits, Note, node}
 use Rattle.meaning.specs.Reading.{State, Run, effort, deep, done, EFFORT, DEEP, Visit, after, byte, joined, second, otherwise, denied, wrapped, apply, keep, use_by, use_rule, visited, visit}
 use Rattle.cells.specs.Cells.{trees_at}
@@ -48,6 +48,11 @@ unfoldable pub end_of : Answer → ℕ
 end_of fail = FAILED
 end_of (ok e ts) = e
 
+-- Where a match ends, FAILED where nothing matched.
+abbrev pub ended : Option ℕ → ℕ
+ended None = FAILED
+ended (Some e) = e
+
 -- What a visit answers, in one number: where it ends, and the list of its trees (or the refusal).
 abbrev pub end_in : ℕ → ℕ
 end_in r = r % 4294967296
@@ -68,6 +73,16 @@ pub record Holds (w : List ℕ) (i r : ℕ) : Type 0 where
 pub record KeptAnswer (given : Given) (w : List ℕ) (i x word r : ℕ) : Type 0 where
   pub failed : word ≡ 1 → (end_in r ≡ FAILED) × (list_in r ≡ 0)
   pub matched : 1 < word → (end_in r ≡ word - 2) × (list_in r ≡ get_or w (place_in given i x + 1) 0)
+
+-- A search's answer as a number: one more than the use that it found, or 0.
+abbrev pub found_in : Option ℕ → ℕ
+found_in None = 0
+found_in (Some i) = i + 1
+
+-- What is kept for a pair, as an answer.
+abbrev pub KeptIn : (given : Given) (w : List ℕ) (i x : ℕ) → Option ℕ → Type 0
+KeptIn given w i x None = get_or w (place_in given i x) 0 ≡ 0
+KeptIn given w i x (Some r) = (0 < get_or w (place_in given i x) 0) × KeptAnswer given w i x (get_or w (place_in given i x) 0) r
 
 -- The answer with what the words say after it: the cells in use, the visits made.
 pub record Visited : Type 0 where

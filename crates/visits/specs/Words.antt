@@ -1,8 +1,10 @@
 -- What the working numbers stand for: live uses from word 0 on, three words each; how many turns wait, how many cells are in use, how many visits are made and the
 -- furthest position at which a range was visited; cells of trees; turns of rows that wait, two words each, from the far end of the cells down; kept answers, two words
 -- a pair.
-use Rattle.std.specs.Prelude.{ℕ, zero, suc, ◌+◌, ◌-◌, ◌*◌, ◌/◌, ◌<◌, ◌≤◌, max, ◌≡◌, ◌≢◌, ◌⊎◌, true, false, List, [], ◌∷◌, length, get_or, set}
+use Rattle.std.specs.Prelude.{ℕ, zero, suc, ◌+◌, ◌-◌, ◌*◌, ◌/◌, ◌<◌, ◌≤◌, max, ◌≡◌, ◌≢◌, ◌⊎◌, true, false, List, [], ◌∷◌, length, get_or, set, Result, Ok, Err}
 use Rattle.std.proofs.Math.Option.{Option, none, some}
+use Rattle.visits.specs.declared.Refusal.{Refusal}
+use Rattle.visits.specs.declared.Refusal.TheVariants.{Effort, Deep}
 use Rattle.std.proofs.lemmas.List.Edits.{sets}
 use Rattle.meaning.specs.Grammar.{Trees, no_trees, tree, Answer, fail, ok, Note, look}
 use Rattle.meaning.specs.Reading.{State, EFFORT, DEEP}
@@ -193,6 +195,20 @@ pub record Added (old new : List ℕ) (top list top' : ℕ) (ts : Trees) : Type 
 
 abbrev pub Adds : (old new : List ℕ) (list : ℕ) → Trees → Type 0
 Adds old new list ts = Added old new (top_in old) list (top_in new) ts
+
+-- 01's code of a refusal, and of what entering a visit answers: 0 where the visit is counted.
+abbrev pub code_of : Refusal → ℕ
+code_of Effort = EFFORT
+code_of Deep = DEEP
+
+abbrev pub code_in : Result (Unit) Refusal → ℕ
+code_in (Ok _) = 0
+code_in (Err refusal) = code_of refusal
+
+-- How many visits are made, where the allowance is not spent.
+abbrev pub Unspent : (given : Given) (w : List ℕ) → Result ℕ Refusal → Type 0
+Unspent given w (Ok made) = (made ≡ made_in w) × (made < allowance_in given)
+Unspent given w (Err refusal) = (refusal ≡ Effort) × (allowance_in given ≤ made_in w)
 
 -- A visit from the words old is refused, for effort or for depth, by its code; else it is counted.
 abbrev pub Entered : (given : Given) (old new : List ℕ) (spot code : ℕ) → Type 0

@@ -1,4 +1,6 @@
 // Where a visit stands, in one number: its position, the live uses, and the open visits left.
+// (So a visit has six parameters, as many as registers pass. A struct around the number is passed alike, in as many instructions, and these functions would be its
+// methods and say no more.)
 ghost use Rattle.std.specs.Prelude.{◌≡◌};
 ghost use Rattle.visits.specs.Given.{left_in, live_in, pos_in, Moved};
 

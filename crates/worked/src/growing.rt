@@ -1,80 +1,55 @@
 // Sheets in which some rules are left-recursive and others are not: only the former become live.
-use crate::build::Table;
-use crate::{build, say, sheets};
+use crate::build::Sheet;
+use crate::{say, sheets};
 
 // Rule 0 is not left-recursive and uses a rule that is, where it stands itself.
 pub(crate) fn rule_0_above() {
-    let mut table = [0u8; build::SPACE];
-    let l = sheets::above(&mut table);
-    say::report(b"L <- S '.' / D, report", &table, l);
-    say::prefix(b"L <- S '.' / D on 7+2.", &table, l, b"7+2.", 2_500);
-    say::prefix(b"L <- S '.' / D on 7", &table, l, b"7", 2_500);
-    say::prefix(
-        b"L <- S '.' / D on 7+2., allowance 23",
-        &table,
-        l,
-        b"7+2.",
-        23,
-    );
-    say::prefix(
-        b"L <- S '.' / D on 7+2., allowance 22",
-        &table,
-        l,
-        b"7+2.",
-        22,
-    );
+    let l = sheets::above();
+    say::report("L <- S '.' / D, report", &l);
+    say::prefix("L <- S '.' / D on 7+2.", &l, b"7+2.", 2_500);
+    say::prefix("L <- S '.' / D on 7", &l, b"7", 2_500);
+    say::prefix("L <- S '.' / D on 7+2., allowance 23", &l, b"7+2.", 23);
+    say::prefix("L <- S '.' / D on 7+2., allowance 22", &l, b"7+2.", 22);
 }
 
 // Two rules that each begin with the other, and one below them.
 pub(crate) fn indirect() {
-    let mut table = [0u8; build::SPACE];
-    let a = sheets::indirect(&mut table);
-    say::report(b"A <- B 'x' / 'y', report", &table, a);
-    say::prefix(b"A <- B 'x' / 'y' on yxx", &table, a, b"yxx", 2_500);
-    say::prefix(b"A <- B 'x' / 'y' on zx", &table, a, b"zx", 2_500);
+    let a = sheets::indirect();
+    say::report("A <- B 'x' / 'y', report", &a);
+    say::prefix("A <- B 'x' / 'y' on yxx", &a, b"yxx", 2_500);
+    say::prefix("A <- B 'x' / 'y' on zx", &a, b"zx", 2_500);
 }
 
-fn report_and_line(report: &[u8], line: &[u8], table: &Table, length: usize) {
-    say::report(report, table, length);
-    say::prefix(line, table, length, b"aa", 2_500);
+fn report_and_line(report: &str, line: &str, sheet: &Sheet) {
+    say::report(report, sheet);
+    say::prefix(line, sheet, b"aa", 2_500);
 }
 
 // A rule behind what may match nothing; in the last sheet it may not.
 pub(crate) fn hidden() {
-    let mut table = [0u8; build::SPACE];
-    let option = sheets::behind_an_option(&mut table);
     report_and_line(
-        b"S behind 'x'?, report",
-        b"S behind 'x'? on aa",
-        &table,
-        option,
+        "S behind 'x'?, report",
+        "S behind 'x'? on aa",
+        &sheets::behind_an_option(),
     );
-    let not = sheets::behind_a_not(&mut table);
     report_and_line(
-        b"S behind !'x', report",
-        b"S behind !'x' on aa",
-        &table,
-        not,
+        "S behind !'x', report",
+        "S behind !'x' on aa",
+        &sheets::behind_a_not(),
     );
-    let repetition = sheets::behind_a_repetition(&mut table);
     report_and_line(
-        b"S behind 'x'*, report",
-        b"S behind 'x'* on aa",
-        &table,
-        repetition,
+        "S behind 'x'*, report",
+        "S behind 'x'* on aa",
+        &sheets::behind_a_repetition(),
     );
-    let rule = sheets::behind_a_rule(&mut table);
     report_and_line(
-        b"S behind U <- 'x'?, report",
-        b"S behind U <- 'x'? on aa",
-        &table,
-        rule,
+        "S behind U <- 'x'?, report",
+        "S behind U <- 'x'? on aa",
+        &sheets::behind_a_rule(),
     );
-    let byte = sheets::behind_a_byte(&mut table);
     report_and_line(
-        b"S behind U <- 'x', report",
-        b"S behind U <- 'x' on aa",
-        &table,
-        byte,
+        "S behind U <- 'x', report",
+        "S behind U <- 'x' on aa",
+        &sheets::behind_a_byte(),
     );
 }

@@ -1,233 +1,154 @@
 // One line of text for each case: its name, then the numbers of its answer, and a stored reading's bytes.
-use crate::build::Table;
+use crate::build::Sheet;
 use page::Page;
-use reader::Reading;
+use reader::{Ending, Extent, Reading, Refusal};
 
-const LF: u8 = 10;
-
+// What the program for a class lends, as `answers` has it; said again here, since this crate stands beside answers and not on it (crates.txt).
 const NUMBERS: usize = 16_384;
 
 const ROOM: usize = 5_005;
 
-// For 5,000,000 visits the formula asks for 80 MB, more than a stack commonly has. This serves 100,000 of them, for sheet A
-// on three bytes.
+// The most that is lent. For 5,000,000 visits the formula asks for 80 MB, more than a stack commonly has. This serves 100,000
+// of them, for sheet A on three bytes.
 pub(crate) const LARGE: usize = 402_104;
 
 // As long as the longest stored reading.
 pub(crate) const LARGE_ROOM: usize = 7_005;
 
-// What a reading is asked for, and lent.
+// Which reading is asked for, and what it is lent.
 #[derive(Clone, Copy)]
 pub(crate) struct Asked {
-    pub whole: bool,
-    pub allowance: u64,
-    pub numbers: usize,
-    pub room: usize,
-}
-
-// The lendings of the program for a class.
-pub(crate) fn usual(whole: bool, allowance: u64) -> Asked {
-    Asked {
-        whole,
-        allowance,
-        numbers: NUMBERS,
-        room: ROOM,
-    }
-}
-
-// ---- What is asked of check, report and reader.
-
-fn put_check(page: &mut Page, used: usize, table: &[u8]) -> usize {
-    let verdict = sheet::check(table);
-    let at = put_next(page, used, verdict.code as u64);
-    put_next(page, at, verdict.place as u64)
-}
-
-fn put_report(page: &mut Page, used: usize, table: &[u8]) -> usize {
-    let findings = report::report(table);
-    let mut at = put_next(page, used, findings.code as u64);
-    at = put_next(page, at, findings.place as u64);
-    at = put_next(page, at, findings.may_be_empty);
-    at = put_next(page, at, findings.left_recursive);
-    at = put_next(page, at, findings.how_many as u64);
-    at = put_next(page, at, findings.lowest as u64);
-    put_next(page, at, findings.free as u64)
-}
-
-fn read(
-    whole: bool,
-    table: &[u8],
-    line: &[u8],
+    extent: Extent,
     allowance: u64,
-    work: &mut [u32],
-    room: &mut [u8],
-) -> Reading {
-    if whole {
-        reader::read_whole(table, line, allowance, work, room)
-    } else {
-        reader::read_prefix(table, line, allowance, work, room)
-    }
+    numbers: usize,
+    room: usize,
 }
 
-fn stored_length(line: &[u8], answer: &Reading) -> usize {
-    if answer.code != 0 {
-        return 0;
+impl Asked {
+    fn usual(extent: Extent, allowance: u64) -> Asked {
+        Asked {
+            extent,
+            allowance,
+            numbers: NUMBERS,
+            room: ROOM,
+        }
     }
-    if answer.records > 1_000 {
-        return 0;
-    }
-    let version = stored::version_of(line.len());
-    stored::stored_length(version, answer.records as u32) as usize
-}
 
-fn put_answer(page: &mut Page, used: usize, answer: &Reading) -> usize {
-    let mut at = put_next(page, used, answer.code);
-    at = put_next(page, at, answer.place);
-    at = put_next(page, at, answer.matched);
-    at = put_next(page, at, answer.visits);
-    at = put_next(page, at, answer.records);
-    put_next(page, at, answer.furthest)
+    // A prefix reading with the usual lendings.
+    pub(crate) fn prefix(allowance: u64) -> Asked {
+        Asked::usual(Extent::Prefix, allowance)
+    }
+
+    // A whole-line reading with the usual lendings.
+    pub(crate) fn whole(allowance: u64) -> Asked {
+        Asked::usual(Extent::Whole, allowance)
+    }
+
+    // The same reading that is lent so much.
+    pub(crate) fn lent(self, numbers: usize, room: usize) -> Asked {
+        Asked {
+            numbers,
+            room,
+            ..self
+        }
+    }
 }
 
 // ---- Text.
 
-fn put_next(page: &mut Page, used: usize, number: u64) -> usize {
-    let at = page::put(page, used, b' ');
-    page::put_number(page, at, number)
-}
-
-fn wide(x: u8) -> u64 {
-    x as u64
-}
-
-fn put_hex(page: &mut Page, used: usize, byte: u8) -> usize {
-    let mut digits = [0u8; 16];
-    let count = io::hex(wide(byte), 2, &mut digits);
-    page::put_all(page, used, &digits[..count])
-}
-
-fn put_bytes(page: &mut Page, used: usize, bytes: &[u8]) -> usize {
-    if bytes.len() == 0 {
-        return used;
+fn put_numbers(page: &mut Page, numbers: &[u64]) {
+    for number in numbers {
+        page.put(b' ');
+        page.put_number(*number);
     }
-    let mut at = page::put(page, used, b' ');
-    let mut i = 0;
-    while i < bytes.len() {
-        at = put_hex(page, at, bytes[i]);
-        i += 1;
-    }
-    at
 }
 
-// A name and the numbers that belong to it.
-fn begin(page: &mut Page, name: &[u8], numbers: &[u64]) -> usize {
-    let mut at = page::put_all(page, 0, name);
-    let mut i = 0;
-    while i < numbers.len() {
-        at = put_next(page, at, numbers[i]);
-        i += 1;
+// Each byte as two hexadecimal digits.
+fn put_bytes(page: &mut Page, bytes: &[u8]) {
+    for byte in bytes {
+        let mut digits = [0; 16];
+        let count = io::hex(u64::from(*byte), 2, &mut digits);
+        page.put_all(&digits[..count]);
     }
-    page::put(page, at, b':')
 }
 
-fn finish(page: &mut Page, used: usize) {
-    let at = page::put(page, used, LF);
-    page::send(page, at);
+// A case's name and the numbers that belong to it, the numbers of its answer, and the bytes, if there are any.
+fn say(name: &str, numbers: &[u64], answer: &[u64], bytes: &[u8]) {
+    let mut page = Page::blank();
+    page.put_all(name.as_bytes());
+    put_numbers(&mut page, numbers);
+    page.put(b':');
+    put_numbers(&mut page, answer);
+    if !bytes.is_empty() {
+        page.put(b' ');
+        put_bytes(&mut page, bytes);
+    }
+    page.put(b'\n');
+    page.send();
 }
 
 // ---- Cases.
 
-pub(crate) fn check(name: &[u8], numbers: &[u64], table: &Table, length: usize) {
-    let mut page = page::blank();
-    let mut at = begin(&mut page, name, numbers);
-    at = put_check(&mut page, at, page::front(table, length));
-    finish(&mut page, at);
+pub(crate) fn check(name: &str, numbers: &[u64], sheet: &Sheet) {
+    let verdict = sheet::check(sheet.bytes());
+    say(name, numbers, &sheet::numbers(verdict), &[]);
 }
 
-pub(crate) fn report(name: &[u8], table: &Table, length: usize) {
-    let mut page = page::blank();
-    let mut at = begin(&mut page, name, &[]);
-    at = put_report(&mut page, at, page::front(table, length));
-    finish(&mut page, at);
+pub(crate) fn report(name: &str, sheet: &Sheet) {
+    let found = report::report(sheet.bytes());
+    say(name, &[], &report::numbers(found), &[]);
 }
 
-// A reading that is lent the front of the working numbers and of the room.
-fn put_reading(
-    page: &mut Page,
-    used: usize,
+// A reading that is lent the front of these working numbers and of this room.
+fn read(
     table: &[u8],
     line: &[u8],
     asked: Asked,
     work: &mut [u32],
     room: &mut [u8],
-) -> usize {
-    let n = asked.numbers;
-    if n > work.len() {
-        return used;
+) -> Result<Reading, Refusal> {
+    let numbers = asked.numbers.min(work.len());
+    let work = &mut work[..numbers];
+    let bytes = asked.room.min(room.len());
+    let room = &mut room[..bytes];
+    reader::read(asked.extent, table, line, asked.allowance, work, room)
+}
+
+// The bytes of the reading that is stored; of an answer that stores none 0.
+fn stored_length(line: &[u8], answer: Result<Reading, Refusal>) -> usize {
+    match answer {
+        Ok(
+            Reading {
+                ending: Ending::Read { records, .. },
+                ..
+            },
+        ) => {
+            let version = stored::version_of(line.len());
+            // No reading has more records.
+            stored::stored_length(version, records.min(1_000) as u32) as usize
+        }
+        _ => 0,
     }
-    let k = asked.room;
-    if k > room.len() {
-        return used;
-    }
-    let answer = read(
-        asked.whole,
-        table,
-        line,
-        asked.allowance,
-        &mut work[..n],
-        &mut room[..k],
+}
+
+pub(crate) fn reading(name: &str, numbers: &[u64], sheet: &Sheet, line: &[u8], asked: Asked) {
+    let mut work = [7; LARGE];
+    let mut room = [7; LARGE_ROOM];
+    let answer = read(sheet.bytes(), line, asked, &mut work, &mut room);
+    say(
+        name,
+        numbers,
+        &reader::numbers(answer),
+        page::front(&room, stored_length(line, answer)),
     );
-    let at = put_answer(page, used, &answer);
-    put_bytes(page, at, page::front(room, stored_length(line, &answer)))
 }
 
-pub(crate) fn reading(
-    name: &[u8],
-    numbers: &[u64],
-    table: &Table,
-    length: usize,
-    line: &[u8],
-    asked: Asked,
-) {
-    let mut work = [7u32; NUMBERS];
-    let mut room = [7u8; ROOM];
-    let mut page = page::blank();
-    let mut at = begin(&mut page, name, numbers);
-    at = put_reading(
-        &mut page,
-        at,
-        page::front(table, length),
-        line,
-        asked,
-        &mut work,
-        &mut room,
-    );
-    finish(&mut page, at);
+// A prefix reading and a whole-line reading with the usual lendings. Both names stay: a value that names one of them is no
+// plainer at each of some seventy calls.
+pub(crate) fn prefix(name: &str, sheet: &Sheet, line: &[u8], allowance: u64) {
+    reading(name, &[], sheet, line, Asked::prefix(allowance));
 }
 
-// A prefix reading and a whole-line reading with the usual lendings.
-pub(crate) fn prefix(name: &[u8], table: &Table, length: usize, line: &[u8], allowance: u64) {
-    reading(name, &[], table, length, line, usual(false, allowance));
-}
-
-pub(crate) fn whole(name: &[u8], table: &Table, length: usize, line: &[u8], allowance: u64) {
-    reading(name, &[], table, length, line, usual(true, allowance));
-}
-
-// A reading that may be lent more.
-pub(crate) fn large(name: &[u8], table: &Table, length: usize, line: &[u8], asked: Asked) {
-    let mut work = [7u32; LARGE];
-    let mut room = [7u8; LARGE_ROOM];
-    let mut page = page::blank();
-    let mut at = begin(&mut page, name, &[]);
-    at = put_reading(
-        &mut page,
-        at,
-        page::front(table, length),
-        line,
-        asked,
-        &mut work,
-        &mut room,
-    );
-    finish(&mut page, at);
+pub(crate) fn whole(name: &str, sheet: &Sheet, line: &[u8], allowance: u64) {
+    reading(name, &[], sheet, line, Asked::whole(allowance));
 }

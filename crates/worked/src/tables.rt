@@ -1,25 +1,18 @@
 // The limits of a table: its counts, its length, its roots, kinds and fields.
 ghost use Rattle.std.specs.Prelude.{◌≤◌};
 
-use crate::build::Table;
-use crate::say::usual;
-use crate::{build, say, sheets};
+use crate::build::Sheet;
+use crate::say::Asked;
+use crate::{say, sheets};
 
 // So many nodes and rules, every node empty, every root 0.
-fn counts_of(n: u64, r: u64)
-    requires { (n ≤ 513) × (r ≤ 65) }
+fn counts_of(nodes: usize, rules: usize)
+    requires { (nodes ≤ 513) × (rules ≤ 65) }
 {
-    let mut table = [0u8; build::SPACE];
-    let length = build::head(&mut table, n as usize, r as usize);
-    say::check(b"Check of nodes, rules", &[n, r], &table, length);
-    say::reading(
-        b"Nodes, rules",
-        &[n, r],
-        &table,
-        length,
-        b"",
-        usual(false, 2_500),
-    );
+    let sheet = Sheet::blank(nodes, rules);
+    let numbers = [nodes as u64, rules as u64];
+    say::check("Check of nodes, rules", &numbers, &sheet);
+    say::reading("Nodes, rules", &numbers, &sheet, b"", Asked::prefix(2_500));
 }
 
 pub(crate) fn counts() {
@@ -33,146 +26,94 @@ pub(crate) fn counts() {
 
 // Sheet A cut after so many bytes, down to none and up to one too many.
 pub(crate) fn cuts() {
-    let mut table = [0u8; build::SPACE];
-    sheets::a(&mut table);
-    cuts_of(&table);
-}
-
-fn cuts_of(table: &Table) {
-    let mut count: u64 = 0;
-    while count < 48 {
-        say::check(b"A cut to bytes", &[count], table, count as usize);
-        count += 1;
+    let mut a = sheets::a();
+    for length in 0..48 {
+        a.set_length(length);
+        say::check("A cut to bytes", &[length as u64], &a);
     }
 }
 
 // Sheet A, 7 nodes, with one root changed.
-fn root_of(rule: u64, node: u64) {
-    let mut table = [0u8; build::SPACE];
-    let a = sheets::a(&mut table);
-    build::root(&mut table, rule as usize, node as usize);
-    say::check(b"A with rule, root", &[rule, node], &table, a);
-}
-
 pub(crate) fn roots() {
-    root_of(0, 6);
-    root_of(0, 7);
-    root_of(0, 256);
-    root_of(1, 0);
-    root_of(1, 7);
-    root_of(1, 65_535);
-}
-
-// Node 1 of two, with both fields 0, of any kind, on a line of one byte 0.
-fn kind_of(kind: u64) {
-    let mut table = [0u8; build::SPACE];
-    let length = build::head(&mut table, 2, 1);
-    build::root(&mut table, 0, 1);
-    build::node(&mut table, 1, kind as usize, 0, 0);
-    say::reading(
-        b"Node 1 of kind",
-        &[kind],
-        &table,
-        length,
-        b"\0",
-        usual(false, 2_500),
-    );
-}
-
-pub(crate) fn kinds() {
-    let mut kind: u64 = 0;
-    while kind < 256 {
-        kind_of(kind);
-        kind += 1;
+    for (rule, node) in [(0, 6), (0, 7), (0, 256), (1, 0), (1, 7), (1, 65_535)] {
+        let mut a = sheets::a();
+        a.put_root(rule, node);
+        say::check("A with rule, root", &[rule as u64, node as u64], &a);
     }
 }
 
-// Node 2 of three, in a table of two rules, with a kind and two fields.
-fn field_of(kind: u64, a: u64, b: u64) {
-    let mut table = [0u8; build::SPACE];
-    let length = build::head(&mut table, 3, 2);
-    build::node(&mut table, 2, kind as usize, a as usize, b as usize);
-    say::check(b"Node 2 of kind, a, b", &[kind, a, b], &table, length);
+// Node 1 of two, with both fields 0, of any kind, on a line of one byte 0.
+pub(crate) fn kinds() {
+    for kind in 0..=u8::MAX {
+        let mut sheet = Sheet::blank(2, 1);
+        sheet.put_root(0, 1);
+        sheet.put_fields(1, kind, 0, 0);
+        say::reading(
+            "Node 1 of kind",
+            &[u64::from(kind)],
+            &sheet,
+            b"\0",
+            Asked::prefix(2_500),
+        );
+    }
 }
 
-fn fields_of_empty() {
-    field_of(0, 0, 0);
-    field_of(0, 1, 0);
-    field_of(0, 256, 0);
-    field_of(0, 0, 1);
-    field_of(0, 0, 256);
-}
-
-// a is at most b, and b at most 255.
-fn fields_of_range() {
-    field_of(1, 0, 0);
-    field_of(1, 0, 255);
-    field_of(1, 0, 256);
-    field_of(1, 255, 255);
-    field_of(1, 255, 254);
-    field_of(1, 256, 255);
-    field_of(1, 256, 256);
-    field_of(1, 1, 0);
-    field_of(1, 65_535, 65_535);
-}
-
-// a is below 2.
-fn fields_of_rule() {
-    field_of(2, 1, 0);
-    field_of(2, 2, 0);
-    field_of(2, 256, 0);
-    field_of(2, 1, 1);
-    field_of(2, 1, 256);
-}
-
-// Both are below 2.
-fn fields_of_two_children(kind: u64) {
-    field_of(kind, 1, 1);
-    field_of(kind, 2, 1);
-    field_of(kind, 1, 2);
-    field_of(kind, 256, 1);
-    field_of(kind, 1, 256);
-    field_of(kind, 65_535, 65_535);
-}
-
-// a is below 2, and b is 0.
-fn fields_of_one_child(kind: u64) {
-    field_of(kind, 1, 0);
-    field_of(kind, 2, 0);
-    field_of(kind, 256, 0);
-    field_of(kind, 1, 1);
-    field_of(kind, 1, 256);
+// Node 2 of three, in a table of two rules, with a kind and each of these pairs of fields.
+fn fields_of(kind: u8, fields: &[(usize, usize)]) {
+    let mut sheet = Sheet::blank(3, 2);
+    for (a, b) in fields {
+        sheet.put_fields(2, kind, *a, *b);
+        say::check(
+            "Node 2 of kind, a, b",
+            &[u64::from(kind), *a as u64, *b as u64],
+            &sheet,
+        );
+    }
 }
 
 pub(crate) fn fields() {
-    fields_of_empty();
-    fields_of_range();
-    fields_of_rule();
-    fields_of_two_children(3);
-    fields_of_two_children(4);
-    fields_of_one_child(5);
-    fields_of_one_child(6);
+    // Of the empty node both are 0.
+    fields_of(0, &[(0, 0), (1, 0), (256, 0), (0, 1), (0, 256)]);
+    // Of a range a is at most b, and b at most 255.
+    let of_range = [
+        (0, 0),
+        (0, 255),
+        (0, 256),
+        (255, 255),
+        (255, 254),
+        (256, 255),
+        (256, 256),
+        (1, 0),
+        (65_535, 65_535),
+    ];
+    fields_of(1, &of_range);
+    // Of a rule a is below 2, and b is 0.
+    fields_of(2, &[(1, 0), (2, 0), (256, 0), (1, 1), (1, 256)]);
+    // Of a sequence and of a choice both are below 2.
+    let of_two_children = [(1, 1), (2, 1), (1, 2), (256, 1), (1, 256), (65_535, 65_535)];
+    fields_of(3, &of_two_children);
+    fields_of(4, &of_two_children);
+    // Of a not and of a repetition a is below 2, and b is 0.
+    let of_one_child = [(1, 0), (2, 0), (256, 0), (1, 1), (1, 256)];
+    fields_of(5, &of_one_child);
+    fields_of(6, &of_one_child);
 }
 
 // Two faults at once: the first in the order of the checks is named, and a node's fields before the next node's kind.
 pub(crate) fn order() {
-    let mut table = [0u8; build::SPACE];
-    let a = sheets::a(&mut table);
-    build::node(&mut table, 1, 7, 0, 0);
-    say::check(b"A with kind 7 at node 1", &[], &table, a);
-    build::node(&mut table, 0, 2, 2, 0);
-    say::check(
-        b"A with kind 7 at node 1, a field wrong at node 0",
-        &[],
-        &table,
-        a,
-    );
-    build::root(&mut table, 1, 7);
-    say::check(b"A with these and root 7 of rule 1", &[], &table, a);
-    say::check(b"A with these and a byte too few", &[], &table, 45);
-    build::head(&mut table, 0, 2);
-    say::check(b"A with these and no nodes", &[], &table, 45);
-    build::version(&mut table, 2);
-    say::check(b"A with these and version 2", &[], &table, 45);
-    say::check(b"A with these and six bytes", &[], &table, 6);
+    let mut a = sheets::a();
+    a.put_fields(1, 7, 0, 0);
+    say::check("A with kind 7 at node 1", &[], &a);
+    a.put_fields(0, 2, 2, 0);
+    say::check("A with kind 7 at node 1, a field wrong at node 0", &[], &a);
+    a.put_root(1, 7);
+    say::check("A with these and root 7 of rule 1", &[], &a);
+    a.set_length(45);
+    say::check("A with these and a byte too few", &[], &a);
+    a.put_counts(0, 2);
+    say::check("A with these and no nodes", &[], &a);
+    a.put_version(2);
+    say::check("A with these and version 2", &[], &a);
+    a.set_length(6);
+    say::check("A with these and six bytes", &[], &a);
 }

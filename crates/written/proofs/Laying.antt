@@ -11,7 +11,7 @@ use lib.Dec.{leb, ltb, eqb}
 use Rattle.meaning.specs.Grammar as g
 use Rattle.meaning.specs.Grammar.{Node}
 use Rattle.meaning.proofs.Choose.{by_test, or_split}
-use Rattle.layout.specs.declared.Verdict.{Verdict}
+use Rattle.layout.specs.Layout.{Verdict}
 use Rattle.layout.specs.Table.{node_at, grammar_of}
 use Rattle.layout.specs.Layout.{READ, verdict, Laid}
 use Rattle.layout.proofs.Exact as layout

@@ -14,7 +14,7 @@ use lib.Dec.{leb, ltb, eqb}
 use lib.ListN.{length, drop, replicate}
 use Rattle.meaning.specs.Decide.{empty_nodes}
 use Rattle.meaning.proofs.Choose.{by_test}
-use Rattle.layout.specs.declared.Verdict.{Verdict}
+use Rattle.layout.specs.Layout.{Verdict}
 use Rattle.layout.specs.Table.{most_nodes, most_rules, length_of, nodes_of, rules_of, root_of, formula, kind_of, field_of, node_of, grammar_of}
 use Rattle.layout.specs.Layout.{READ, verdict, first_fault, root_fault, fields_fit, fault_of, node_fault, layout_of}
 use Rattle.sheet.specs.Check.{LOOP, loop_fault, check_of}

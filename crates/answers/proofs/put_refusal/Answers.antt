@@ -6,4 +6,4 @@ use Rattle.answers.proofs.put_refusal.Goals as goal
 pub returns : goal.returns
 unfolding refusal_text
 returns c =
-    puts_both c.put_name-at.ensures (puts_both c.put_next-at.ensures (puts_both c.put_next-at-2.ensures c.put.ensures))
+    rw (← c.name.ensures) (puts_both c.put_all.ensures (puts_both c.put_next.ensures (puts_both c.put_next-2.ensures c.put.ensures)))

@@ -16,8 +16,8 @@ returns-then-right-eq0 c =
     c.requires.arena.0 c.requires.arena.1.0 c.requires.arena.1.1 c.if-left-eq0.false c.if-right-eq0.true
     in record { words = both.0; made = both.1 }
 
-pub returns : goal.returns
-returns c =
+pub returns-else-right-eq0 : goal.returns-else-right-eq0
+returns-else-right-eq0 c =
     let if1 = c.if-left-eq0 in
     let if2 = c.if-right-eq0 in
     let both =

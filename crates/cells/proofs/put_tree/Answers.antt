@@ -1,18 +1,12 @@
-use mathlib.Core.Path.{◌≡◌, ◌∙◌}
-use native.Mathlib.Omega.{arith}
-use Rattle.cells.specs.Cells.{with_tree}
+use mathlib.Core.Path.{◌≡◌, sym, ◌∙◌}
+use Rattle.cells.specs.Cells.{records_word, with_tree}
 use Rattle.cells.proofs.Making.{made_tree}
 use Rattle.cells.proofs.put_tree.Goals as goal
 
-pub overflow_add-work : goal.overflow_add-work
-overflow_add-work c =
-    omega (arith, c.requires.arena.0.records c.args.children c.requires.arena.1)
-
-pub returns : goal.returns
-returns c =
-    let put-cell = c.put_cell in
-    let saturate = c.saturate-records in
+pub returns-clause-made : goal.returns-clause-made
+returns-clause-made c =
     let a = c.args in
     let p = c.requires in
-    let e : put-cell.new.work ≡ with_tree a.work.now a.top a.rule a.start a.end a.children = put-cell.ensures ∙ rw saturate.ensures in
-    record { words = e; made = rw e (made_tree a.work.now a.top p.room.0 p.arena.0 a.rule a.start a.end a.children p.small.0 p.small.1.0 p.small.1.1 p.arena.1) }
+    let counted : c.records_of.result ≡ records_word a.work.now a.children = c.records_of.ensures ∙ sym (p.arena.0.records a.children p.arena.1) in
+    let e : c.put_cell.new.work ≡ with_tree a.work.now a.top a.rule a.start a.end a.children = c.put_cell.ensures ∙ rw (c.min-records.ensures, counted) in
+    rw e (made_tree a.work.now a.top p.room.0 p.arena.0 a.rule a.start a.end a.children p.small.0 p.small.1.0 p.small.1.1 p.arena.1)

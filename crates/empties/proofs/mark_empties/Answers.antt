@@ -11,9 +11,8 @@ use Rattle.empties.specs.Pass.{alone}
 use Rattle.empties.proofs.Repeat.{no_rules, no_nodes}
 use Rattle.empties.proofs.mark_empties.Goals as goal
 
-pub returns-then-first-n : goal.returns-then-first-n
-returns-then-first-n c =
+pub returns-in-None : goal.returns-in-None
+returns-in-None c =
     let t = c.args.table.now in
-    let count = c.node_count-n.ensures.0 in
-    let none : (i : ℕ) → i < length (grammar_of t).nodes → alone (node (grammar_of t) i) ≡ false = λ i h. c.first_empty-first.ensures.before i (omega arith) (omega (arith, node_count t, c.if-first-n.true, count)) in
+    let none : (i : ℕ) → i < length (grammar_of t).nodes → alone (node (grammar_of t) i) ≡ false = λ i h. (rw c.of-table.ensures at c.in-None.ensures).before i (omega arith) (omega (arith, node_count t)) in
     (no_rules (grammar_of t) (closed t c.requires.0) none, no_nodes (grammar_of t) (closed t c.requires.0) none _ c.requires.1)

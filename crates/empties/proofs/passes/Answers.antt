@@ -5,7 +5,7 @@ use Prim.Native.Nat.{ℕ}
 use native.Mathlib.Omega.{arith}
 use lib.ListN.{length}
 use Rattle.layout.specs.Table.{nodes_of, grammar_of}
-use Rattle.layout.proofs.Laying.{node_count, closed}
+use Rattle.layout.proofs.Laying.{laid, node_count, closed}
 use Rattle.empties.specs.Pass.{Passed}
 use Rattle.empties.proofs.Repeat.{begun, again, all_rules, all_nodes_lem}
 use Rattle.empties.proofs.passes.Goals as goal
@@ -16,28 +16,28 @@ by-nodes : (t : List ℕ) {known from : ℕ} {before after : List ℕ} → Passe
 by-nodes t p = rw (node_count t) p
 
 pub loop-known-init : goal.loop-known-init
-loop-known-init c = let t = c.args.table.now in begun (grammar_of t) (closed t c.requires.0) _ _ c.requires.1 (rw (node_count t) c.requires.2)
+loop-known-init c = let t = c.args.table.now.bytes.now in begun (grammar_of t) (closed t (laid t c.args.table.now.laid)) _ _ c.requires.0 (rw (node_count t) c.requires.1)
 
 pub pass-requires : goal.pass-requires
 pass-requires c =
     let b = c.loop-known.invariant in
-    (c.requires.0, b.words, omega (arith, node_count c.args.table.now, b.there))
+    (b.words, omega (arith, node_count c.args.table.now.bytes.now, b.there))
 
 pub loop-known-preserved : goal.loop-known-preserved
 loop-known-preserved c =
-    let t = c.args.table.now in
+    let t = c.args.table.now.bytes.now in
     let l = c.loop-known in
     let p = c.pass in
     let m = c.gather-more in
-    again (grammar_of t) (closed t c.requires.0) _ _ _ _ _ l.invariant (by-nodes t p.ensures) m.ensures.0 m.type_inv
+    again (grammar_of t) (closed t (laid t c.args.table.now.laid)) _ _ _ _ _ l.invariant (by-nodes t p.ensures) m.ensures.0 m.type_inv
 
-pub returns : goal.returns
-returns c =
-    let t = c.args.table.now in
+pub returns-then-more-known : goal.returns-then-more-known
+returns-then-more-known c =
+    let t = c.args.table.now.bytes.now in
     let l = c.loop-known in
     let p = by-nodes t c.pass.ensures in
     let more = c.gather-more.ensures.0 in
     let none_added : c.gather-more.result ≡ l.known = omega arith in (
-      all_rules (grammar_of t) (closed t c.requires.0) _ _ _ _ _ l.invariant p more none_added,
-      all_nodes_lem (grammar_of t) (closed t c.requires.0) _ _ _ _ _ l.invariant p more none_added,
+      all_rules (grammar_of t) (closed t (laid t c.args.table.now.laid)) _ _ _ _ _ l.invariant p more none_added,
+      all_nodes_lem (grammar_of t) (closed t (laid t c.args.table.now.laid)) _ _ _ _ _ l.invariant p more none_added,
     )

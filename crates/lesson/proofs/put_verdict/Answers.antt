@@ -3,4 +3,4 @@ use Rattle.lesson.proofs.put_verdict.Goals as goal
 
 pub returns : goal.returns
 unfolding verdict_text
-returns c = c.put_refusal.ensures
+returns c = rw (← c.code.ensures, ← c.place.ensures) c.put_refusal.ensures

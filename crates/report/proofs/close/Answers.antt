@@ -7,10 +7,10 @@ use Rattle.report.proofs.close.Goals as goal
 
 pub loop-k-init : goal.loop-k-init
 unfolding led
-loop-k-init c = (omega arith, c.requires.0, λ a b h. refl)
+loop-k-init c = λ a b h. refl
 
 pub loop-k-preserved : goal.loop-k-preserved
 loop-k-preserved c =
     let l = c.loop-k in
     let w = c.through in
-    (omega arith, w.ensures.0, turned c.args.to.now l.to w.new.to _ _ (omega arith) l.invariant.2 w.ensures.1)
+    λ a b h. turned c.args.to.now l.to w.new.to _ _ (omega arith) l.invariant w.ensures a b (omega (arith, w.auto.to))

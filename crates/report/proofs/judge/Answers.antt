@@ -4,6 +4,6 @@ use Rattle.report.proofs.judge.Goals as goal
 
 pub returns : goal.returns
 returns c =
-    let m = c.masks-found.ensures in
-    let j = c.none_reached-free.ensures in
+    let m = rw c.of-table.ensures at c.masks-found.ensures in
+    let j = rw c.of-table.ensures at c.none_reached-free.ensures in
     record { left_rules = m.0; free = j.free; used = used _ c.requires.0 c.args.scratch.now c.requires.2 _ m.2 _ j }

@@ -1,57 +1,53 @@
--- What is found of a node is what the nodes below it and the nodes that are marked say, kind by kind.
-use mathlib.Core.Path.{◌≡◌, refl, sym, ap, ap₂, ◌∙◌}
+-- What is found of a node is what the nodes below it and the nodes that are marked say.
+use mathlib.Core.Path.{◌≡◌, ap, ap₂, ◌∙◌}
 use mathlib.Core.Bool.{Bool}
-use native.Mathlib.Omega.{arith}
 use mathlib.Core.List.{List}
+use mathlib.Core.Logic.{⊎_elim}
 use Prim.Native.Nat.{ℕ, ◌<◌}
 use lib.Bits.{bit_or}
 use Rattle.bits.specs.Marks.{marked}
 use Rattle.meaning.specs.Grammar.{node}
-use Rattle.layout.specs.Table.{nodes_of, kind_of, a_of, b_of, decode, grammar_of}
-use Rattle.layout.proofs.Laying.{well_laid, bounds_as, of_kind}
+use Rattle.layout.specs.declared.Node.{Node}
+use Rattle.layout.specs.declared.Node.TheVariants.{Empty, Range}
+use Rattle.layout.specs.Table.{nodes_of, grammar_of}
+use Rattle.layout.specs.Nodes.{meaning_of, IsNode}
+use Rattle.layout.proofs.Laying.{node_meant}
 use Rattle.report.specs.Pass.{in_row, starts_of, starts_at}
-use Rattle.report.proofs.Words.{no_start}
 use Rattle.report.proofs.of_node.Goals as goal
 
--- What is said of a node of this kind and with these fields is said of the node that has them.
-said_of : (marks scratch t : List ℕ) (i kind a b : ℕ) → i < nodes_of t → kind ≡ kind_of t i → a ≡ a_of t i → b ≡ b_of t i → (k : ℕ) → kind ≡ k
-    → starts_of (marked marks) (starts_at scratch) (decode k a b) ≡ starts_of (marked marks) (starts_at scratch) (node (grammar_of t) i)
-said_of marks scratch t i kind a b there is-kind is-a is-b k e =
-    sym (ap (starts_of (marked marks) (starts_at scratch)) (of_kind t i kind a b there is-kind is-a is-b k e))
+-- What is said of the code's node is said of the grammar's.
+said_of : (marks scratch t : List ℕ) (i : ℕ) (n : Node) → i < nodes_of t → IsNode t i n
+    → starts_of (marked marks) (starts_at scratch) (meaning_of n) ≡ starts_of (marked marks) (starts_at scratch) (node (grammar_of t) i)
+said_of marks scratch t i n there is = ap (starts_of (marked marks) (starts_at scratch)) (node_meant t i n there is)
 
-pub of_rule-requires : goal.of_rule-requires
-of_rule-requires c =
-    let p = c.requires.0 in
-    let b = bounds_as _ p.0 _ p.1.0 2 (sym c.kind_from-kind.ensures.0 ∙ c.in-2.is) in
-    omega (arith, well_laid _ p.0)
-
-pub returns-in-2 : goal.returns-in-2
+pub returns-in-Rule : goal.returns-in-Rule
 unfolding starts_of
-returns-in-2 c = c.of_rule.ensures ∙ said_of c.args.marks.now c.args.scratch.now c.args.table.now c.args.i _ _ _ c.requires.0.1.0 c.kind_from-kind.ensures.0 c.field_a_from-a.ensures.0 c.field_b_from-b.ensures.0 2 c.in-2.is
+returns-in-Rule c = said_of _ _ _ _ _ c.requires.0 c.in-Rule.ensures
 
-pub returns-in-3 : goal.returns-in-3
+pub returns-in-Sequence : goal.returns-in-Sequence
 unfolding starts_of
-returns-in-3 c =
+returns-in-Sequence c =
     c.in_row.ensures
-    ∙ ap (λ (e : Bool). in_row e c.starts_at.result c.starts_at-in-3.result) c.marked.ensures
-    ∙ ap₂ (in_row (marked c.args.marks.now c.field_a_from-a.result))
-    c.starts_at.ensures c.starts_at-in-3.ensures
-    ∙ said_of c.args.marks.now c.args.scratch.now c.args.table.now c.args.i _ _ _ c.requires.0.1.0 c.kind_from-kind.ensures.0 c.field_a_from-a.ensures.0 c.field_b_from-b.ensures.0 3 c.in-3.is
+    ∙ ap (λ (e : Bool). in_row e c.starts_at.result c.starts_at-in-Sequence.result) c.marked.ensures
+    ∙ ap₂ (in_row (marked c.args.marks.now c.in-Sequence.a)) c.starts_at.ensures c.starts_at-in-Sequence.ensures
+    ∙ said_of _ _ _ _ _ c.requires.0 c.in-Sequence.ensures
 
-pub returns-in-4 : goal.returns-in-4
+pub returns-in-Choice : goal.returns-in-Choice
 unfolding starts_of
-returns-in-4 c = ap₂ bit_or c.starts_at-in-4.ensures c.starts_at-in-4-2.ensures ∙ said_of c.args.marks.now c.args.scratch.now c.args.table.now c.args.i _ _ _ c.requires.0.1.0 c.kind_from-kind.ensures.0 c.field_a_from-a.ensures.0 c.field_b_from-b.ensures.0 4 c.in-4.is
+returns-in-Choice c =
+    ap₂ bit_or c.starts_at-in-Choice.ensures c.starts_at-in-Choice-2.ensures ∙ said_of _ _ _ _ _ c.requires.0 c.in-Choice.ensures
 
-pub returns-in-5 : goal.returns-in-5
+pub returns-in-Not : goal.returns-in-Not
 unfolding starts_of
-returns-in-5 c = c.starts_at-in-5.ensures ∙ said_of c.args.marks.now c.args.scratch.now c.args.table.now c.args.i _ _ _ c.requires.0.1.0 c.kind_from-kind.ensures.0 c.field_a_from-a.ensures.0 c.field_b_from-b.ensures.0 5 c.in-5.is
+returns-in-Not c = c.starts_at-in-Not.ensures ∙ said_of _ _ _ _ _ c.requires.0 c.in-Not.ensures
 
-pub returns-in-6 : goal.returns-in-6
+pub returns-in-Repetition : goal.returns-in-Repetition
 unfolding starts_of
-returns-in-6 c = c.starts_at-in-6.ensures ∙ said_of c.args.marks.now c.args.scratch.now c.args.table.now c.args.i _ _ _ c.requires.0.1.0 c.kind_from-kind.ensures.0 c.field_a_from-a.ensures.0 c.field_b_from-b.ensures.0 6 c.in-6.is
+returns-in-Repetition c = c.starts_at-in-Repetition.ensures ∙ said_of _ _ _ _ _ c.requires.0 c.in-Repetition.ensures
 
-pub returns-in_default : goal.returns-in_default
-returns-in_default c =
-    let k = c.kind_from-kind.result in
-    no_start _ _ k _ _ (λ (z : k ≡ 2). omega arith) (λ (z : k ≡ 3). omega arith) (λ (z : k ≡ 4). omega arith) (λ (z : k ≡ 5). omega arith) (λ (z : k ≡ 6). omega arith)
-    ∙ said_of c.args.marks.now c.args.scratch.now c.args.table.now c.args.i _ _ _ c.requires.0.1.0 c.kind_from-kind.ensures.0 c.field_a_from-a.ensures.0 c.field_b_from-b.ensures.0 _ refl
+pub returns-in-Empty : goal.returns-in-Empty
+unfolding starts_of
+returns-in-Empty c =
+    let said = said_of c.args.marks.now c.args.scratch.now c.args.table.now.bytes.now c.args.i c.node.result c.requires.0 c.node.ensures in
+    ⊎_elim (λ (e : c.node.result ≡ Empty). rw e at said)
+    (λ (e : (lowest : ℕ) × (highest : ℕ) × (c.node.result ≡ Range lowest highest)). rw e.2 at said) c.in-Empty.is

@@ -5,7 +5,7 @@ use Rattle.report.proofs.Reaching.{Begun}
 use Rattle.report.proofs.reachable_rules.Given as goal
 
 abbrev pub invariant-loop-reached : goal.invariant-loop-reached
-invariant-loop-reached l = Begun (grammar_of l.table) l.reached
+invariant-loop-reached l = Begun (grammar_of l.table.bytes.now) l.reached
 
 abbrev pub decreases-loop-reached : goal.decreases-loop-reached
 decreases-loop-reached l = 2 ^ 64 - l.reached

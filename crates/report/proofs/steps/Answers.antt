@@ -1,24 +1,16 @@
 -- Each rule's set is filled with the rules at the start of its root.
 use native.Mathlib.Omega.{arith}
-use lib.ListN.{length-set}
-use Rattle.layout.proofs.Laying.{well_laid, rule_count}
+use Rattle.layout.proofs.Laying.{laid, well_laid}
 use Rattle.report.specs.Pass.{root_starts}
 use Rattle.report.proofs.Tables.{root_starts_lem}
 use Rattle.report.proofs.Sets.{filled_next}
 use Rattle.report.proofs.steps.Goals as goal
 
 pub starts_at-requires : goal.starts_at-requires
-starts_at-requires c = omega (arith, well_laid _ c.requires.0)
+starts_at-requires c = omega (arith, well_laid _ (laid _ c.args.table.now.laid))
 
 pub loop-a-preserved : goal.loop-a-preserved
 loop-a-preserved c =
     let l = c.loop-a in
-    let inv = l.invariant in
-    let found = root_starts_lem _ _ l.a _ _ (omega arith) c.root.ensures.0 c.starts_at.ensures in (
-      omega arith,
-      simp length-set inv.1,
-      filled_next (root_starts _ _) l.to l.a _ (omega arith) inv.2 found,
-    )
-
-pub returns : goal.returns
-returns c = (c.loop-a.invariant.1, λ a h. c.loop-a.invariant.2 a (omega (arith, rule_count c.args.table.now)))
+    let found = root_starts_lem _ _ l.a _ _ (omega arith) c.root.ensures.0 c.starts_at.ensures in
+    filled_next (root_starts _ _) l.to l.a _ (omega arith) l.invariant found

@@ -1,12 +1,9 @@
 -- Each rule's set is filled with the rules at the start of its root.
 use mathlib.Core.Path.{◌≡◌}
-use Prim.Native.Nat.{ℕ, ◌-◌, ◌≤◌, ◌<◌}
-use lib.ListN.{length, get_or}
+use Prim.Native.Nat.{ℕ, ◌<◌}
+use lib.ListN.{get_or}
 use Rattle.report.specs.Pass.{root_starts}
 use Rattle.report.proofs.steps.Given as goal
 
 abbrev pub invariant-loop-a : goal.invariant-loop-a
-invariant-loop-a l = (l.a ≤ l.r) × (length l.to ≡ 64) × ((j : ℕ) → j < l.a → get_or l.to j 0 ≡ root_starts l.table l.scratch j)
-
-abbrev pub decreases-loop-a : goal.decreases-loop-a
-decreases-loop-a l = l.r - l.a
+invariant-loop-a l = (j : ℕ) → j < l.a → get_or l.to j 0 ≡ root_starts l.table.bytes.now l.scratch j

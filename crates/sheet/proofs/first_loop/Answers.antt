@@ -1,16 +1,20 @@
 -- The search for the first repetition of nothing, begun at one node, goes on at node i.
 use mathlib.Core.Path.{sym, ◌∙◌}
+use Prim.Native.Nat.{◌≤◌}
 use native.Mathlib.Omega.{arith}
+use Rattle.layout.specs.Table.{nodes_of}
 use Rattle.layout.proofs.Laws.{first_pass, first_stop, first_end}
 use Rattle.sheet.proofs.first_loop.Goals as goal
 
-pub returns-then-code-ne-READ : goal.returns-then-code-ne-READ
-returns-then-code-ne-READ c =
-    sym (c.loop-i.invariant.1 ∙ first_stop _ _ _ (omega arith) _ (sym c.loop_fault-code.ensures) c.if-code-ne-READ.true)
+pub returns-then-repeats_nothing : goal.returns-then-repeats_nothing
+returns-then-repeats_nothing c =
+    sym (c.loop-i.invariant ∙ first_stop _ _ _ (omega arith) _ (sym (rw c.if-repeats_nothing.true at c.repeats_nothing.ensures)) (omega arith))
 
 pub loop-i-preserved : goal.loop-i-preserved
 loop-i-preserved c =
-    (omega arith, c.loop-i.invariant.1 ∙ first_pass _ _ _ (omega arith) (sym c.loop_fault-code.ensures ∙ c.if-code-ne-READ.false))
+    c.loop-i.invariant ∙ first_pass _ _ _ (omega arith) (sym (rw c.if-repeats_nothing.false at c.repeats_nothing.ensures))
 
 pub returns : goal.returns
-returns c = sym (c.loop-i.invariant.1 ∙ first_end _ _ _ c.loop-i-test.false)
+returns c =
+    let none_left : nodes_of c.args.table.now.bytes.now ≤ c.loop-i.i = omega arith in
+    sym (c.loop-i.invariant ∙ first_end _ _ _ none_left)

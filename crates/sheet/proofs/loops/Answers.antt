@@ -1,15 +1,16 @@
 -- Where no repetition is suspected there is nothing to refuse; else the marks decide, from the first that is.
 use mathlib.Core.Path.{refl, sym, ◌∙◌}
 use Rattle.bits.proofs.Marks.{none_marked}
+use Rattle.layout.proofs.Laying.{laid}
 use Rattle.sheet.proofs.Searching.{from_suspect, none_suspected}
 use Rattle.sheet.proofs.loops.Goals as goal
 
-pub returns-then-from-n : goal.returns-then-from-n
-returns-then-from-n c = none_suspected _ c.requires.0 _ _ _ c.requires.1 c.requires.2 c.first_suspect-from.ensures c.if-from-n.true
+pub returns-in-None : goal.returns-in-None
+returns-in-None c = none_suspected _ (laid _ c.args.table.now.laid) _ _ _ refl c.requires c.in-None.ensures refl
 
 pub mark_empties-requires : goal.mark_empties-requires
-mark_empties-requires c = (c.requires.0, (refl, none_marked))
+mark_empties-requires c = (laid _ c.args.table.now.laid, (refl, none_marked))
 
-pub returns : goal.returns
-returns c =
-    c.first_loop.ensures ∙ sym (from_suspect _ c.requires.0 _ _ _ c.requires.1 c.requires.2 c.first_suspect-from.ensures)
+pub returns-in-Some : goal.returns-in-Some
+returns-in-Some c =
+    c.first_loop.ensures ∙ sym (from_suspect _ (laid _ c.args.table.now.laid) _ _ _ refl c.requires c.in-Some.ensures)

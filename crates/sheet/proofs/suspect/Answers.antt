@@ -1,23 +1,33 @@
 -- A repetition whose child is no range.
-use mathlib.Core.Path.{refl, sym, ◌∙◌}
+use mathlib.Core.Path.{◌≡◌, refl, sym, ◌∙◌}
 use borrow.Author.Tests.{eq-eqb, ne_eqb}
+use lib.Dec.{eqb}
+use Rattle.layout.specs.Table.{kind_of}
+use Rattle.layout.proofs.Laying.{laid}
 use Rattle.sheet.specs.Search.{suspect}
+use Rattle.sheet.proofs.ByKind.{is_repetition, no_repetition, is_range, no_range}
 use Rattle.sheet.proofs.Searching.{child_there}
 use Rattle.sheet.proofs.suspect.Goals as goal
+use Rattle.sheet.proofs.suspect.Goals.{in-Range, in_default-matches}
 
-pub returns-then-kind_from-ne6 : goal.returns-then-kind_from-ne6
+pub returns-in_default : goal.returns-in_default
 unfolding suspect
-returns-then-kind_from-ne6 c =
-    let other = ne_eqb c.kind_from.result 6 c.if-kind_from-ne6.true in
-    rw (← c.kind_from.ensures.0, other)
+returns-in_default c =
+    let other = ne_eqb _ _ (no_repetition _ (laid _ c.args.table.now.laid) _ c.requires _ c.node.ensures c.in_default.not-Repetition) in
+    rw other refl
 
-pub kind_from-requires-2 : goal.kind_from-requires-2
-kind_from-requires-2 c =
-    let six = sym c.kind_from.ensures.0 ∙ c.if-kind_from-ne6.false in
-    (c.requires.0, (rw c.field_a_from-child.ensures.0 (child_there _ c.requires.0 _ c.requires.1.0 six), c.requires.1.1))
-
-pub returns : goal.returns
+pub returns-after-matches : goal.returns-after-matches
 unfolding suspect
-returns c =
-    let six = eq-eqb _ _ (sym c.kind_from.ensures.0 ∙ c.if-kind_from-ne6.false) in
-    rw (six, ← c.field_a_from-child.ensures.0, ← c.kind_from-2.ensures.0) refl
+returns-after-matches c =
+    let t = c.args.table.now.bytes.now in
+    let good = laid t c.args.table.now.laid in
+    let r = is_repetition t good _ c.requires _ c.node.ensures c.in-Repetition.child c.in-Repetition.is in
+    let there = child_there t good _ c.requires r.0 in
+    let six = eq-eqb (kind_of t c.args.i) 6 r.0 in
+    let child = c.node-in-Repetition in
+    let said : c.match-matches.matches ≡ eqb (kind_of t c.in-Repetition.child) 1 =
+    elim c.match-matches.branch [
+      | in-Range w ↦ w.matches-is ∙ sym (eq-eqb _ _ (is_range t good _ (rw r.1 there) _ child.ensures _ _ w.in-Range.is))
+      | in_default-matches w ↦ w.matches-is ∙ sym (ne_eqb _ _ (no_range t good _ (rw r.1 there) _ child.ensures w.in_default-matches.not-Range))
+    ] in
+    rw (said, six, r.1) refl

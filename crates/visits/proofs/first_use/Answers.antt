@@ -5,9 +5,9 @@ use mathlib.Core.Path.{refl}
 use Rattle.visits.proofs.ByKind.{uses_once, keeps_yes, keeps_no}
 use Rattle.visits.proofs.first_use.Goals as goal
 
-pub returns-then-given-ne0 : goal.returns-then-given-ne0
-returns-then-given-ne0 c =
-    let at-if1 = c.if-given-ne0 in record {
+pub returns-then-basis-ne0 : goal.returns-then-basis-ne0
+returns-then-basis-ne0 c =
+    let at-if1 = c.if-basis-ne0 in record {
       says = record {
         came = uses_once _ _ c.requires.ready.fit _ _ _ (inl (keeps_yes _ at-if1.true)) _ c.requires.some refl c.use_once.ensures.says.came;
         cells = c.use_once.ensures.says.cells;
@@ -18,7 +18,7 @@ returns-then-given-ne0 c =
 
 pub use_fresh-requires : goal.use_fresh-requires
 use_fresh-requires c =
-    record { ready = c.requires.ready; «open» = (omega arith, c.requires.some); plain = keeps_no _ c.if-given-ne0.false; fresh = λ grows i h. absurd (omega (arith, h)) }
+    record { ready = c.requires.ready; «open» = (omega arith, c.requires.some); plain = keeps_no _ c.if-basis-ne0.false; fresh = λ grows i h. absurd (omega (arith, h)) }
 
 pub returns : goal.returns
 returns c =

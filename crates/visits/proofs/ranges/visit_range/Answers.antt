@@ -1,11 +1,14 @@
--- `visit_range` meets its contract: the fields of the node are the ends of the range, and the position is reached.
-use mathlib.Core.Path.{◌∙◌}
+-- The fields of the node are the ends of the range.
+use mathlib.Core.Path.{sym, ap, ◌∙◌}
+use Rattle.visits.specs.Says.{ended}
 use Rattle.visits.proofs.ranges.visit_range.Goals as goal
 
-pub returns : goal.returns
-returns c =
-    let at-answer = c.answer.ensures in
-    let at-a-of = c.a_of-lowest in
-    let at-b-of = c.b_of-highest in
-    let at_end = rw (at-a-of.ensures.0, at-b-of.ensures.0) at c.range_end-end.ensures in
-    record { range = (at-answer.0 ∙ at_end, at-answer.1); reached = c.reach.ensures.reached; lent = c.reach.ensures.lent }
+pub returns-in-Some-clause-range : goal.returns-in-Some-clause-range
+returns-in-Some-clause-range c =
+    let at-end = rw (c.a_of-lowest.ensures.0, c.b_of-highest.ensures.0) at c.range_end.ensures in
+    (c.answer.ensures.0 ∙ sym (ap ended c.in-Some.is) ∙ at-end, c.answer.ensures.1)
+
+pub returns-in-None-clause-range : goal.returns-in-None-clause-range
+returns-in-None-clause-range c =
+    let at-end = rw (c.a_of-lowest.ensures.0, c.b_of-highest.ensures.0) at c.range_end.ensures in
+    (c.answer-in-None.ensures.0 ∙ sym (ap ended c.in-None.is) ∙ at-end, c.answer-in-None.ensures.1)

@@ -1,8 +1,0 @@
-use lib.Bits.{and_mask, mask_lt}
-use Rattle.bits.proofs.low_half.Goals as goal
-
-pub overflow_cast-result : goal.overflow_cast-result
-overflow_cast-result c = record { fits = mask_lt c.args.mask 32 }
-
-pub returns : goal.returns
-returns c = and_mask _ 32

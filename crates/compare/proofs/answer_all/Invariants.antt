@@ -1,8 +1,0 @@
--- `compare::answer_all` is safe and ends: the measure is the turns that are left.
-use Rattle.compare.proofs.answer_all.Given as goal
-
-abbrev pub invariant-loop-turns : goal.invariant-loop-turns
-invariant-loop-turns l = Unit {0}
-
-abbrev pub decreases-loop-turns : goal.decreases-loop-turns
-decreases-loop-turns l = l.turns

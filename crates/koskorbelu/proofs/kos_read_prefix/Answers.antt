@@ -1,5 +1,0 @@
-use Rattle.koskorbelu.proofs.Face.{read_written}
-use Rattle.koskorbelu.proofs.kos_read_prefix.Goals as goal
-
-pub returns : goal.returns
-returns c = read_written _ c.read_prefix-r.result _ _ c.read_prefix-r.ensures
