@@ -56,7 +56,13 @@ apply-visit_not-done-requires t c =
 
 pub apply-returns-then-basis-eq0-clause-says : goal.apply-returns-then-basis-eq0-clause-says
 apply-returns-then-basis-eq0-clause-says t c =
-    let the-met : (Ends (lent c.args.basis.now.table.now (numbers c.args.basis.now.given)) c.args.basis.now.line.now c.args.work.now.now c.match-kind_of.work.now c.args.spot c.match-kind_of.done (λ l s. applies (lent c.args.basis.now.table.now (numbers c.args.basis.now.given)) c.args.basis.now.line.now (left_in c.args.spot) l c.args.node (pos_in c.args.spot) s) × (c.match-kind_of.work.ghost_name ≡ c.args.work.now.ghost_name)) = let ready = c.requires.ready in
+    let given = lent c.args.basis.now.table.now (numbers c.args.basis.now.given) in
+    let line = c.args.basis.now.line.now in
+    let the-met : (
+        Ends given line c.args.work.now.now c.match-kind_of.work.now c.args.spot c.match-kind_of.done
+            (λ l s. applies given line (left_in c.args.spot) l c.args.node (pos_in c.args.spot) s)
+        × (c.match-kind_of.work.ghost_name ≡ c.args.work.now.ghost_name))
+      = let ready = c.requires.ready in
     let fit = ready.fit in
     let kind = sym c.kind_of.ensures.0 in
     elim c.match-kind_of.branch [
@@ -109,11 +115,17 @@ apply-returns-then-basis-eq0-clause-says t c =
     let at-if1 = c.if-basis-eq0 in
     let ready = c.requires.ready in
     let met = the-met in
-    plain_opens (lent c.args.basis.now.table.now (numbers c.args.basis.now.given)) c.args.basis.now.line.now c.args.work.now.now c.args.spot c.args.node (pos_in c.args.spot) ready (keeps_no _ at-if1.true) _ _ met.0
+    plain_opens given line c.args.work.now.now c.args.spot c.args.node (pos_in c.args.spot) ready (keeps_no _ at-if1.true) _ _ met.0
 
 pub apply-keep-requires : goal.apply-keep-requires
 apply-keep-requires t c =
-    let the-met : (Ends (lent c.args.basis.now.table.now (numbers c.args.basis.now.given)) c.args.basis.now.line.now c.args.work.now.now c.match-kind_of.work.now c.args.spot c.match-kind_of.done (λ l s. applies (lent c.args.basis.now.table.now (numbers c.args.basis.now.given)) c.args.basis.now.line.now (left_in c.args.spot) l c.args.node (pos_in c.args.spot) s) × (c.match-kind_of.work.ghost_name ≡ c.args.work.now.ghost_name)) = let ready = c.requires.ready in
+    let given = lent c.args.basis.now.table.now (numbers c.args.basis.now.given) in
+    let line = c.args.basis.now.line.now in
+    let the-met : (
+        Ends given line c.args.work.now.now c.match-kind_of.work.now c.args.spot c.match-kind_of.done
+            (λ l s. applies given line (left_in c.args.spot) l c.args.node (pos_in c.args.spot) s)
+        × (c.match-kind_of.work.ghost_name ≡ c.args.work.now.ghost_name))
+      = let ready = c.requires.ready in
     let fit = ready.fit in
     let kind = sym c.kind_of.ensures.0 in
     elim c.match-kind_of.branch [
@@ -170,13 +182,18 @@ apply-keep-requires t c =
     let e = at_end_of.ensures in
     let m = met.0.came.end_most in
     let free = keeps_yes _ c.if-basis-eq0.false in
-    let given = lent c.args.basis.now.table.now (numbers c.args.basis.now.given) in
-    let room = roomy given c.args.basis.now.line.now _ c.args.node (pos_in c.args.spot) ready.fit free met.0.came.words.room ready.node_in ready.pos_within in
+    let room = roomy given line _ c.args.node (pos_in c.args.spot) ready.fit free met.0.came.words.room ready.node_in ready.pos_within in
     (rw at-pos-of4.ensures room, omega arith)
 
 pub apply-returns-clause-says : goal.apply-returns-clause-says
 apply-returns-clause-says t c =
-    let the-met : (Ends (lent c.args.basis.now.table.now (numbers c.args.basis.now.given)) c.args.basis.now.line.now c.args.work.now.now c.match-kind_of.work.now c.args.spot c.match-kind_of.done (λ l s. applies (lent c.args.basis.now.table.now (numbers c.args.basis.now.given)) c.args.basis.now.line.now (left_in c.args.spot) l c.args.node (pos_in c.args.spot) s) × (c.match-kind_of.work.ghost_name ≡ c.args.work.now.ghost_name)) = let ready = c.requires.ready in
+    let given = lent c.args.basis.now.table.now (numbers c.args.basis.now.given) in
+    let line = c.args.basis.now.line.now in
+    let the-met : (
+        Ends given line c.args.work.now.now c.match-kind_of.work.now c.args.spot c.match-kind_of.done
+            (λ l s. applies given line (left_in c.args.spot) l c.args.node (pos_in c.args.spot) s)
+        × (c.match-kind_of.work.ghost_name ≡ c.args.work.now.ghost_name))
+      = let ready = c.requires.ready in
     let fit = ready.fit in
     let kind = sym c.kind_of.ensures.0 in
     elim c.match-kind_of.branch [
@@ -235,7 +252,7 @@ apply-returns-clause-says t c =
     let free = keeps_yes _ at-if1.false in
     let met = the-met in
     let kept = rw (at-pos-of4.ensures, at_end_of.ensures, at-list-of.ensures) at at-keep.ensures in
-    open_applied (lent c.args.basis.now.table.now (numbers c.args.basis.now.given)) _ _ _ _ _ ready c.requires.«open» free _ refl _ (c.requires.kept.1 free) _ _ met.0 kept
+    open_applied given _ _ _ _ _ ready c.requires.«open» free _ refl _ (c.requires.kept.1 free) _ _ met.0 kept
 
 pub use_fresh-has_rule-requires : goal.use_fresh-has_rule-requires
 use_fresh-has_rule-requires t c =
@@ -969,7 +986,9 @@ keep_row-go_back-last-requires-in-Some t c =
 
 pub keep_row-loop-work-smaller : goal.keep_row-loop-work-smaller
 keep_row-loop-work-smaller t c =
-    let the-visited = child_visited (lent c.args.basis.now.table.now (numbers c.args.basis.now.given)) c.args.basis.now.line.now c.args.spot c.args.node c.loop-work.invariant.1.1.0 c.a_of-x.ensures.0 _ c.visit-a.ensures.says in
+    let given = lent c.args.basis.now.table.now (numbers c.args.basis.now.given) in
+    let line = c.args.basis.now.line.now in
+    let the-visited = child_visited given line c.args.spot c.args.node c.loop-work.invariant.1.1.0 c.a_of-x.ensures.0 _ c.visit-a.ensures.says in
     let the-counted : (let words = c.visit-a.new.work.now in (made_in words < allowance_in (lent [] (numbers c.args.basis.now.given))) × (c.enter_in_place.new.work.now ≡ set words 2043 (made_in words + 1))) = counts (lent [] (numbers c.args.basis.now.given)) _ _ _ c.enter_in_place.ensures.says (ap code_in c.in_default.is) in
     let the-looked : (c.kept_answer.new.work.now ≡ set c.visit-a.new.work.now 2043 (made_in c.visit-a.new.work.now + 1)) = ap (λ r. r.now) c.kept_answer.ensures.1 ∙ the-counted.1 in
     let at_end_of = c.end_of-end in
@@ -984,8 +1003,10 @@ keep_row-loop-work-smaller t c =
     let match = matched at_end_of.ensures the-visited.came.end_most at-if1.false at-if2.false in
     let less = let e = at_end_of.ensures in let q : end_in at-visit.result < STOPPED = omega arith in q in
     let other = let q : end_in at-visit.result ≢ pos_in at-loop.here = λ e. at-if3.false (at_end_of.ensures ∙ e ∙ sym at-pos-of2.ensures) in q in
-    let none : get_or (set c.visit-a.new.work.now 2043 (made_in c.visit-a.new.work.now + 1)) (place_in (lent c.args.basis.now.table.now (numbers c.args.basis.now.given)) c.args.node (end_in c.visit-a.result)) 0 ≡ 0 = rw (c.end_of-end.ensures, the-counted.1) at c.in_default-kept_answer.ensures.0 in
-    kept_row.nearer _ _ _ _ _ c.requires.ready c.requires.«open».0 c.requires.«open».1 c.requires.free at-loop.invariant.0 _ the-visited less other the-counted.0 none _ (rw ((ap turns_in the-looked ∙ kept_row.still_turns _ _ _ _ _ c.requires.ready c.requires.«open».0 c.requires.«open».1 c.requires.free at-loop.invariant.0 _ the-visited less other the-counted.0), the-looked, at-pos-of4.ensures) at at-put-turn.ensures)
+    let none : get_or (set c.visit-a.new.work.now 2043 (made_in c.visit-a.new.work.now + 1)) (place_in given c.args.node (end_in c.visit-a.result)) 0 ≡ 0 = rw (c.end_of-end.ensures, the-counted.1) at c.in_default-kept_answer.ensures.0 in
+    kept_row.nearer _ _ _ _ _ c.requires.ready c.requires.«open».0 c.requires.«open».1 c.requires.free at-loop.invariant.0 _ the-visited less other the-counted.0 none _
+        (rw ((ap turns_in the-looked ∙ kept_row.still_turns _ _ _ _ _ c.requires.ready c.requires.«open».0 c.requires.«open».1 c.requires.free at-loop.invariant.0 _ the-visited less other the-counted.0),
+        the-looked, at-pos-of4.ensures) at at-put-turn.ensures)
 
 pub keep_row-loop-work-preserved : goal.keep_row-loop-work-preserved
 keep_row-loop-work-preserved t c =
@@ -1149,9 +1170,14 @@ visit-returns-in-Some-clause-says t c =
 
 pub visit-keep-requires : goal.visit-keep-requires
 visit-keep-requires t c =
-    let the-opened : (Opened (lent c.args.basis.now.table.now (numbers c.args.basis.now.given)) c.args.basis.now.line.now c.args.work.now.now c.enter.new.work.now c.args.spot c.args.node) = entered_open _ _ _ _ _ c.requires.ready c.enter.ensures.says (ap code_in c.in_default.is) in
+    let given = lent c.args.basis.now.table.now (numbers c.args.basis.now.given) in
+    let line = c.args.basis.now.line.now in
+    let the-opened : (Opened given line c.args.work.now.now c.enter.new.work.now c.args.spot c.args.node) = entered_open _ _ _ _ _ c.requires.ready c.enter.ensures.says (ap code_in c.in_default.is) in
     let same : c.kept_answer.new.work.now ≡ c.enter.new.work.now = ap (λ r. r.now) c.kept_answer.ensures.1 in
-    let the-ranged : (Ends (lent c.args.basis.now.table.now (numbers c.args.basis.now.given)) c.args.basis.now.line.now c.enter.new.work.now c.visit_range-done.new.work.now (c.args.spot - 1) c.visit_range-done.result (λ l s. applies (lent c.args.basis.now.table.now (numbers c.args.basis.now.given)) c.args.basis.now.line.now (left_in (c.args.spot - 1)) l c.args.node (pos_in (c.args.spot - 1)) s)) = let o = the-opened in
+    let the-ranged : (
+        Ends given line c.enter.new.work.now c.visit_range-done.new.work.now (c.args.spot - 1) c.visit_range-done.result
+            (λ l s. applies given line (left_in (c.args.spot - 1)) l c.args.node (pos_in (c.args.spot - 1)) s))
+      = let o = the-opened in
     let there = c.pos_of-pos.ensures ∙ sym o.there in
     let range = rw there at c.visit_range-done.ensures.range in
     let reached = rw (there, same) at c.visit_range-done.ensures.reached in
@@ -1159,14 +1185,19 @@ visit-keep-requires t c =
     let o = the-opened in
     let ranged = the-ranged in
     let free = keeps_yes _ c.if-basis-eq0.false in
-    let room = roomy (lent c.args.basis.now.table.now (numbers c.args.basis.now.given)) _ _ _ _ o.starts.fit free ranged.came.words.room o.starts.node_in o.starts.pos_within in
+    let room = roomy given _ _ _ _ o.starts.fit free ranged.came.words.room o.starts.node_in o.starts.pos_within in
     (rw (c.pos_of-pos.ensures ∙ sym o.there) room, omega (arith, ranged.came.end_most, c.end_of.ensures))
 
 pub visit-returns-then-kind_of-eq1-clause-says : goal.visit-returns-then-kind_of-eq1-clause-says
 visit-returns-then-kind_of-eq1-clause-says t c =
-    let the-opened : (Opened (lent c.args.basis.now.table.now (numbers c.args.basis.now.given)) c.args.basis.now.line.now c.args.work.now.now c.enter.new.work.now c.args.spot c.args.node) = entered_open _ _ _ _ _ c.requires.ready c.enter.ensures.says (ap code_in c.in_default.is) in
+    let given = lent c.args.basis.now.table.now (numbers c.args.basis.now.given) in
+    let line = c.args.basis.now.line.now in
+    let the-opened : (Opened given line c.args.work.now.now c.enter.new.work.now c.args.spot c.args.node) = entered_open _ _ _ _ _ c.requires.ready c.enter.ensures.says (ap code_in c.in_default.is) in
     let same : c.kept_answer.new.work.now ≡ c.enter.new.work.now = ap (λ r. r.now) c.kept_answer.ensures.1 in
-    let the-ranged : (Ends (lent c.args.basis.now.table.now (numbers c.args.basis.now.given)) c.args.basis.now.line.now c.enter.new.work.now c.visit_range-done.new.work.now (c.args.spot - 1) c.visit_range-done.result (λ l s. applies (lent c.args.basis.now.table.now (numbers c.args.basis.now.given)) c.args.basis.now.line.now (left_in (c.args.spot - 1)) l c.args.node (pos_in (c.args.spot - 1)) s)) = let o = the-opened in
+    let the-ranged : (
+        Ends given line c.enter.new.work.now c.visit_range-done.new.work.now (c.args.spot - 1) c.visit_range-done.result
+            (λ l s. applies given line (left_in (c.args.spot - 1)) l c.args.node (pos_in (c.args.spot - 1)) s))
+      = let o = the-opened in
     let there = c.pos_of-pos.ensures ∙ sym o.there in
     let range = rw there at c.visit_range-done.ensures.range in
     let reached = rw (there, same) at c.visit_range-done.ensures.reached in
@@ -1174,7 +1205,7 @@ visit-returns-then-kind_of-eq1-clause-says t c =
     let o = the-opened in
     let there = c.pos_of-pos.ensures ∙ sym o.there in
     let ranged = the-ranged in
-    let none : get_or c.enter.new.work.now (place_in (lent c.args.basis.now.table.now (numbers c.args.basis.now.given)) c.args.node (pos_in (c.args.spot - 1))) 0 ≡ 0 = rw (c.pos_of-pos.ensures ∙ sym o.there) at c.in_default-kept_answer.ensures.0 in
+    let none : get_or c.enter.new.work.now (place_in given c.args.node (pos_in (c.args.spot - 1))) 0 ≡ 0 = rw (c.pos_of-pos.ensures ∙ sym o.there) at c.in_default-kept_answer.ensures.0 in
     let kept = rw (there, c.end_of.ensures, c.list_of.ensures) at c.keep.ensures in
     let applied = open_applied _ _ _ _ _ _ o.starts o.space (keeps_yes _ c.if-basis-eq0.false) _ refl _ none _ _ ranged kept in
     opened _ _ _ _ _ c.requires.ready o _ _ applied
