@@ -31,6 +31,7 @@ use Rattle.visits.proofs.Entering.{code_some}
 
 pub apply-use_once-done-requires : goal.apply-use_once-done-requires
 apply-use_once-done-requires t c =
+    let given = lent c.args.basis.now.table.now (numbers c.args.basis.now.given) in
     let at-a-of = c.a_of in
     let at-kind-of = c.kind_of in
     let at-match = c.in-2 in
@@ -39,7 +40,7 @@ apply-use_once-done-requires t c =
     let e = at-a-of.ensures.0 in
     let kind = sym at-kind-of.ensures.0 ∙ at-match.is in
     let r = rule_used _ _ fit c.args.node ready.node_in kind in
-    let la : at-a-of.result < rules_in (lent c.args.basis.now.table.now (numbers c.args.basis.now.given)) = omega arith in
+    let la : at-a-of.result < rules_in given = omega arith in
     let few_rules = (well_laid _ fit.laid).few_rules in
     (omega (arith, c.decreases), (ready_at _ ready (root_within _ _ fit _ la), (c.requires.«open», (omega arith, la))))
 
@@ -261,8 +262,9 @@ use_fresh-has_rule-requires t c =
 
 pub use_fresh-use_live-requires : goal.use_fresh-use_live-requires
 use_fresh-use_live-requires t c =
+    let given = lent c.args.basis.now.table.now (numbers c.args.basis.now.given) in
     let the-small : (c.args.rule < 64) = omega (arith, c.requires.«open».1, (well_laid _ c.requires.ready.fit.laid).few_rules) in
-    let the-bit : (grows_in (lent c.args.basis.now.table.now (numbers c.args.basis.now.given)) c.args.rule ≡ c.has_rule.result) = sym c.has_rule.ensures in
+    let the-bit : (grows_in given c.args.rule ≡ c.has_rule.result) = sym c.has_rule.ensures in
     let few = c.requires.«open» in
     let grows = the-bit ∙ c.if-has_rule.true in
     (omega (arith, c.decreases), (c.requires.ready, ((few.0, (the-small, few.1)), c.requires.fresh grows)))
@@ -275,7 +277,8 @@ use_fresh-use_once-requires t c =
 
 pub use_fresh-returns-clause-says : goal.use_fresh-returns-clause-says
 use_fresh-returns-clause-says t c =
-    let the-bit : (grows_in (lent c.args.basis.now.table.now (numbers c.args.basis.now.given)) c.args.rule ≡ c.has_rule.result) = sym c.has_rule.ensures in
+    let given = lent c.args.basis.now.table.now (numbers c.args.basis.now.given) in
+    let the-bit : (grows_in given c.args.rule ≡ c.has_rule.result) = sym c.has_rule.ensures in
     let once = c.use_once.ensures.says in
     let still = the-bit ∙ c.if-has_rule.false in
     record { came = uses_once _ _ c.requires.ready.fit _ _ _ (inr still) _ c.requires.«open».1 refl once.came; cells = once.cells; ahead = once.ahead }
@@ -326,11 +329,13 @@ use_once-returns-clause-says t c =
 
 pub visit_choice-returns-then-end-ne-FAILED-clause-says : goal.visit_choice-returns-then-end-ne-FAILED-clause-says
 visit_choice-returns-then-end-ne-FAILED-clause-says t c =
+    let given = lent c.args.basis.now.table.now (numbers c.args.basis.now.given) in
+    let line = c.args.basis.now.line.now in
     let at-visit = c.visit-a in
     let at-if1 = c.if-end-ne-FAILED in
     let at_end_of = c.end_of-end in
     let ready = c.requires.ready in
-    let visiting = reading (lent c.args.basis.now.table.now (numbers c.args.basis.now.given)) c.args.basis.now.line.now (left_in c.args.spot) in
+    let visiting = reading given line (left_in c.args.spot) in
     let first = at-visit.ensures.says in
     record { came = choice_first _ _ ready.fit visiting _ _ first.came _ (λ e. at-if1.true (at_end_of.ensures ∙ e)); cells = first.cells; ahead = first.ahead }
 
@@ -344,35 +349,41 @@ visit_choice-visit-requires t c =
 
 pub visit_choice-returns-clause-says : goal.visit_choice-returns-clause-says
 visit_choice-returns-clause-says t c =
+    let given = lent c.args.basis.now.table.now (numbers c.args.basis.now.given) in
+    let line = c.args.basis.now.line.now in
     let at-visit = c.visit-a in
     let at-visit2 = c.visit in
     let at_end_of = c.end_of-end in
     let at-if1 = c.if-end-ne-FAILED in
     let ready = c.requires.ready in
-    let visiting = reading (lent c.args.basis.now.table.now (numbers c.args.basis.now.given)) c.args.basis.now.line.now (left_in c.args.spot) in
+    let visiting = reading given line (left_in c.args.spot) in
     let first = at-visit.ensures.says in
     let next = at-visit2.ensures.says in
     record { came = choice_second _ _ ready.fit visiting _ _ first.came _ (sym at_end_of.ensures ∙ at-if1.false) next.came; cells = omega (arith, first.cells, next.cells); ahead = next.ahead }
 
 pub visit_not-returns-then-end-eq-STOPPED-clause-says : goal.visit_not-returns-then-end-eq-STOPPED-clause-says
 visit_not-returns-then-end-eq-STOPPED-clause-says t c =
+    let given = lent c.args.basis.now.table.now (numbers c.args.basis.now.given) in
+    let line = c.args.basis.now.line.now in
     let at-visit = c.visit-a in
     let at_end_of = c.end_of-end in
     let at-if1 = c.if-end-eq-STOPPED in
     let ready = c.requires.ready in
-    let visiting = reading (lent c.args.basis.now.table.now (numbers c.args.basis.now.given)) c.args.basis.now.line.now (left_in c.args.spot) in
+    let visiting = reading given line (left_in c.args.spot) in
     let first = at-visit.ensures.says in
     record { came = not_stop _ _ ready.fit visiting _ _ first.came (sym at_end_of.ensures ∙ at-if1.true); cells = first.cells; ahead = first.ahead }
 
 pub visit_not-returns-then-end-eq-FAILED-clause-says : goal.visit_not-returns-then-end-eq-FAILED-clause-says
 visit_not-returns-then-end-eq-FAILED-clause-says t c =
+    let given = lent c.args.basis.now.table.now (numbers c.args.basis.now.given) in
+    let line = c.args.basis.now.line.now in
     let at-visit = c.visit-a in
     let at-answer = c.answer in
     let at-pos-of = c.pos_of in
     let at_end_of = c.end_of-end in
     let at-if2 = c.if-end-eq-FAILED in
     let ready = c.requires.ready in
-    let visiting = reading (lent c.args.basis.now.table.now (numbers c.args.basis.now.given)) c.args.basis.now.line.now (left_in c.args.spot) in
+    let visiting = reading given line (left_in c.args.spot) in
     let first = at-visit.ensures.says in record {
       came = came_at _ _ ready.fit.short _ _ _ _ (at-answer.ensures.0 ∙ at-pos-of.ensures) at-answer.ensures.1 refl refl
           (not_match _ _ ready.fit visiting _ _ first.came (sym at_end_of.ensures ∙ at-if2.true) ready.pos_within);
@@ -382,13 +393,15 @@ visit_not-returns-then-end-eq-FAILED-clause-says t c =
 
 pub visit_not-returns-clause-says : goal.visit_not-returns-clause-says
 visit_not-returns-clause-says t c =
+    let given = lent c.args.basis.now.table.now (numbers c.args.basis.now.given) in
+    let line = c.args.basis.now.line.now in
     let at-visit = c.visit-a in
     let at-answer2 = c.answer-2 in
     let at_end_of = c.end_of-end in
     let at-if1 = c.if-end-eq-STOPPED in
     let at-if2 = c.if-end-eq-FAILED in
     let ready = c.requires.ready in
-    let visiting = reading (lent c.args.basis.now.table.now (numbers c.args.basis.now.given)) c.args.basis.now.line.now (left_in c.args.spot) in
+    let visiting = reading given line (left_in c.args.spot) in
     let first = at-visit.ensures.says in record {
       came = came_at _ _ ready.fit.short _ _ _ _ at-answer2.ensures.0 at-answer2.ensures.1 refl refl
           (not_fail _ _ ready.fit visiting _ _ first.came (omega (arith, at_end_of.ensures, at-if1.false, at-if2.false, first.came.end_most)));
@@ -398,6 +411,7 @@ visit_not-returns-clause-says t c =
 
 pub visit_open-use_rule-requires : goal.visit_open-use_rule-requires
 visit_open-use_rule-requires t c =
+    let given = lent c.args.basis.now.table.now (numbers c.args.basis.now.given) in
     let at-a-of = c.a_of in
     let at-kind-of = c.kind_of in
     let at-match = c.in-2 in
@@ -405,24 +419,28 @@ visit_open-use_rule-requires t c =
     let fit = ready.fit in
     let e = at-a-of.ensures.0 in
     let r = rule_used _ _ fit c.args.node ready.node_in (sym at-kind-of.ensures.0 ∙ at-match.is) in
-    let la : at-a-of.result < rules_in (lent c.args.basis.now.table.now (numbers c.args.basis.now.given)) = omega arith in
+    let la : at-a-of.result < rules_in given = omega arith in
     (omega (arith, c.decreases), (ready_at _ ready (root_within _ _ fit _ la), ((c.requires.«open».0, la), c.requires.«open».1)))
 
 pub visit_open-returns-in-1-clause-says : goal.visit_open-returns-in-1-clause-says
 visit_open-returns-in-1-clause-says t c =
+    let given = lent c.args.basis.now.table.now (numbers c.args.basis.now.given) in
+    let line = c.args.basis.now.line.now in
     let at-kind-of = c.kind_of in
     let at-match = c.in-1 in
     let at-range = rw c.pos_of.ensures at c.visit_range.ensures in
-    let ready = c.requires.ready in plain_opens (lent c.args.basis.now.table.now (numbers c.args.basis.now.given)) c.args.basis.now.line.now c.args.work.now.now c.args.spot c.args.node (pos_in c.args.spot) ready c.requires.«open».1 _ _
+    let ready = c.requires.ready in plain_opens given line c.args.work.now.now c.args.spot c.args.node (pos_in c.args.spot) ready c.requires.«open».1 _ _
     (range_ends _ _ c.args.spot c.args.node _ ready (sym at-kind-of.ensures.0 ∙ at-match.is) at-range.range at-range.reached)
 
 pub visit_open-returns-in-2-clause-says : goal.visit_open-returns-in-2-clause-says
 visit_open-returns-in-2-clause-says t c =
+    let given = lent c.args.basis.now.table.now (numbers c.args.basis.now.given) in
+    let line = c.args.basis.now.line.now in
     let at-kind-of = c.kind_of in
     let at-match = c.in-2 in
     let at-a-of = c.a_of in
     let at-use-rule = c.use_rule in
-    let ready = c.requires.ready in plain_opens (lent c.args.basis.now.table.now (numbers c.args.basis.now.given)) c.args.basis.now.line.now c.args.work.now.now c.args.spot c.args.node (pos_in c.args.spot) ready c.requires.«open».1 _ _
+    let ready = c.requires.ready in plain_opens given line c.args.work.now.now c.args.spot c.args.node (pos_in c.args.spot) ready c.requires.«open».1 _ _
     (record {
       came = apply_rule _ _ ready.fit _ _ _ ready.node_in (sym at-kind-of.ensures.0 ∙ at-match.is) _ at-a-of.ensures.0 at-use-rule.ensures.says.came;
       cells = at-use-rule.ensures.says.cells;
@@ -431,13 +449,17 @@ visit_open-returns-in-2-clause-says t c =
 
 pub visit_open-returns-in-3-clause-says : goal.visit_open-returns-in-3-clause-says
 visit_open-returns-in-3-clause-says t c =
+    let given = lent c.args.basis.now.table.now (numbers c.args.basis.now.given) in
+    let line = c.args.basis.now.line.now in
     let at-visit-pair = c.visit_pair in
-    plain_opens (lent c.args.basis.now.table.now (numbers c.args.basis.now.given)) c.args.basis.now.line.now c.args.work.now.now c.args.spot c.args.node (pos_in c.args.spot) c.requires.ready c.requires.«open».1 _ _ at-visit-pair.ensures.says
+    plain_opens given line c.args.work.now.now c.args.spot c.args.node (pos_in c.args.spot) c.requires.ready c.requires.«open».1 _ _ at-visit-pair.ensures.says
 
 pub visit_open-returns-in-4-clause-says : goal.visit_open-returns-in-4-clause-says
 visit_open-returns-in-4-clause-says t c =
+    let given = lent c.args.basis.now.table.now (numbers c.args.basis.now.given) in
+    let line = c.args.basis.now.line.now in
     let at-visit-pair2 = c.visit_pair-in-4 in
-    plain_opens (lent c.args.basis.now.table.now (numbers c.args.basis.now.given)) c.args.basis.now.line.now c.args.work.now.now c.args.spot c.args.node (pos_in c.args.spot) c.requires.ready c.requires.«open».1 _ _ at-visit-pair2.ensures.says
+    plain_opens given line c.args.work.now.now c.args.spot c.args.node (pos_in c.args.spot) c.requires.ready c.requires.«open».1 _ _ at-visit-pair2.ensures.says
 
 pub visit_pair-visit_sequence-requires : goal.visit_pair-visit_sequence-requires
 visit_pair-visit_sequence-requires t c =
@@ -493,11 +515,13 @@ visit_pair-returns-clause-says t c =
 
 pub visit_sequence-returns-then-end-ge-STOPPED-clause-says : goal.visit_sequence-returns-then-end-ge-STOPPED-clause-says
 visit_sequence-returns-then-end-ge-STOPPED-clause-says t c =
+    let given = lent c.args.basis.now.table.now (numbers c.args.basis.now.given) in
+    let line = c.args.basis.now.line.now in
     let at-visit = c.visit-a in
     let at_end_of = c.end_of-end in
     let at-if1 = c.if-end-ge-STOPPED in
     let ready = c.requires.ready in
-    let visiting = reading (lent c.args.basis.now.table.now (numbers c.args.basis.now.given)) c.args.basis.now.line.now (left_in c.args.spot) in
+    let visiting = reading given line (left_in c.args.spot) in
     let first = at-visit.ensures.says in
     record { came = seq_first _ _ ready.fit visiting _ _ first.came _ (omega (arith, at_end_of.ensures, at-if1.true)); cells = first.cells; ahead = first.ahead }
 
@@ -548,7 +572,9 @@ visit_sequence-returns-clause-says t c =
 
 pub use_live-visit-first-requires : goal.use_live-visit-first-requires
 use_live-visit-first-requires t c =
-    let use-here : Use = record { given = lent c.args.basis.now.table.now (numbers c.args.basis.now.given); line = c.args.basis.now.line.now; start = c.args.work.now.now; spot = c.args.spot; pos = pos_in c.args.spot; rule = c.args.rule; root = c.root_of-root.result } in
+    let given = lent c.args.basis.now.table.now (numbers c.args.basis.now.given) in
+    let line = c.args.basis.now.line.now in
+    let use-here : Use = record { given = given; line = line; start = c.args.work.now.now; spot = c.args.spot; pos = pos_in c.args.spot; rule = c.args.rule; root = c.root_of-root.result } in
     let the-tried : (Tried use-here use-here.start) = record {
       ready = rw (← c.root_of-root.ensures.0) at c.requires.ready;
       there = refl;
@@ -563,7 +589,9 @@ use_live-visit-first-requires t c =
 
 pub use_live-returns-then-reached-ge-STOPPED-clause-says : goal.use_live-returns-then-reached-ge-STOPPED-clause-says
 use_live-returns-then-reached-ge-STOPPED-clause-says t c =
-    let use-here : Use = record { given = lent c.args.basis.now.table.now (numbers c.args.basis.now.given); line = c.args.basis.now.line.now; start = c.args.work.now.now; spot = c.args.spot; pos = pos_in c.args.spot; rule = c.args.rule; root = c.root_of-root.result } in
+    let given = lent c.args.basis.now.table.now (numbers c.args.basis.now.given) in
+    let line = c.args.basis.now.line.now in
+    let use-here : Use = record { given = given; line = line; start = c.args.work.now.now; spot = c.args.spot; pos = pos_in c.args.spot; rule = c.args.rule; root = c.root_of-root.result } in
     let the-tried : (Tried use-here use-here.start) = record {
       ready = rw (← c.root_of-root.ensures.0) at c.requires.ready;
       there = refl;
@@ -579,7 +607,9 @@ use_live-returns-then-reached-ge-STOPPED-clause-says t c =
 
 pub use_live-loop-next-init : goal.use_live-loop-next-init
 use_live-loop-next-init t c =
-    let use-here : Use = record { given = lent c.args.basis.now.table.now (numbers c.args.basis.now.given); line = c.args.basis.now.line.now; start = c.args.work.now.now; spot = c.args.spot; pos = pos_in c.args.spot; rule = c.args.rule; root = c.root_of-root.result } in
+    let given = lent c.args.basis.now.table.now (numbers c.args.basis.now.given) in
+    let line = c.args.basis.now.line.now in
+    let use-here : Use = record { given = given; line = line; start = c.args.work.now.now; spot = c.args.spot; pos = pos_in c.args.spot; rule = c.args.rule; root = c.root_of-root.result } in
     let the-tried : (Tried use-here use-here.start) = record {
       ready = rw (← c.root_of-root.ensures.0) at c.requires.ready;
       there = refl;
@@ -608,7 +638,9 @@ use_live-loop-next-init t c =
 
 pub use_live-visit-next-requires : goal.use_live-visit-next-requires
 use_live-visit-next-requires t c =
-    let use-here : Use = record { given = lent c.args.basis.now.table.now (numbers c.args.basis.now.given); line = c.args.basis.now.line.now; start = c.args.work.now.now; spot = c.args.spot; pos = pos_in c.args.spot; rule = c.args.rule; root = c.root_of-root.result } in
+    let given = lent c.args.basis.now.table.now (numbers c.args.basis.now.given) in
+    let line = c.args.basis.now.line.now in
+    let use-here : Use = record { given = given; line = line; start = c.args.work.now.now; spot = c.args.spot; pos = pos_in c.args.spot; rule = c.args.rule; root = c.root_of-root.result } in
     let the-tried : (Tried use-here use-here.start) = record {
       ready = rw (← c.root_of-root.ensures.0) at c.requires.ready;
       there = refl;
@@ -640,7 +672,9 @@ use_live-visit-next-requires t c =
 
 pub use_live-planted-held-requires-in-loop-next-clause-cell : goal.use_live-planted-held-requires-in-loop-next-clause-cell
 use_live-planted-held-requires-in-loop-next-clause-cell t c =
-    let use-here : Use = record { given = lent c.args.basis.now.table.now (numbers c.args.basis.now.given); line = c.args.basis.now.line.now; start = c.args.work.now.now; spot = c.args.spot; pos = pos_in c.args.spot; rule = c.args.rule; root = c.root_of-root.result } in
+    let given = lent c.args.basis.now.table.now (numbers c.args.basis.now.given) in
+    let line = c.args.basis.now.line.now in
+    let use-here : Use = record { given = given; line = line; start = c.args.work.now.now; spot = c.args.spot; pos = pos_in c.args.spot; rule = c.args.rule; root = c.root_of-root.result } in
     let the-tried : (Tried use-here use-here.start) = record {
       ready = rw (← c.root_of-root.ensures.0) at c.requires.ready;
       there = refl;
@@ -684,7 +718,9 @@ use_live-planted-held-requires-in-loop-next-clause-cell t c =
 
 pub use_live-loop-next-smaller : goal.use_live-loop-next-smaller
 use_live-loop-next-smaller t c =
-    let use-here : Use = record { given = lent c.args.basis.now.table.now (numbers c.args.basis.now.given); line = c.args.basis.now.line.now; start = c.args.work.now.now; spot = c.args.spot; pos = pos_in c.args.spot; rule = c.args.rule; root = c.root_of-root.result } in
+    let given = lent c.args.basis.now.table.now (numbers c.args.basis.now.given) in
+    let line = c.args.basis.now.line.now in
+    let use-here : Use = record { given = given; line = line; start = c.args.work.now.now; spot = c.args.spot; pos = pos_in c.args.spot; rule = c.args.rule; root = c.root_of-root.result } in
     let the-tried : (Tried use-here use-here.start) = record {
       ready = rw (← c.root_of-root.ensures.0) at c.requires.ready;
       there = refl;
@@ -730,7 +766,9 @@ use_live-loop-next-smaller t c =
 
 pub use_live-loop-next-preserved : goal.use_live-loop-next-preserved
 use_live-loop-next-preserved t c =
-    let use-here : Use = record { given = lent c.args.basis.now.table.now (numbers c.args.basis.now.given); line = c.args.basis.now.line.now; start = c.args.work.now.now; spot = c.args.spot; pos = pos_in c.args.spot; rule = c.args.rule; root = c.root_of-root.result } in
+    let given = lent c.args.basis.now.table.now (numbers c.args.basis.now.given) in
+    let line = c.args.basis.now.line.now in
+    let use-here : Use = record { given = given; line = line; start = c.args.work.now.now; spot = c.args.spot; pos = pos_in c.args.spot; rule = c.args.rule; root = c.root_of-root.result } in
     let the-tried : (Tried use-here use-here.start) = record {
       ready = rw (← c.root_of-root.ensures.0) at c.requires.ready;
       there = refl;
@@ -779,7 +817,9 @@ use_live-loop-next-preserved t c =
 
 pub use_live-returns-then-reached-eq-STOPPED-clause-says : goal.use_live-returns-then-reached-eq-STOPPED-clause-says
 use_live-returns-then-reached-eq-STOPPED-clause-says t c =
-    let use-here : Use = record { given = lent c.args.basis.now.table.now (numbers c.args.basis.now.given); line = c.args.basis.now.line.now; start = c.args.work.now.now; spot = c.args.spot; pos = pos_in c.args.spot; rule = c.args.rule; root = c.root_of-root.result } in
+    let given = lent c.args.basis.now.table.now (numbers c.args.basis.now.given) in
+    let line = c.args.basis.now.line.now in
+    let use-here : Use = record { given = given; line = line; start = c.args.work.now.now; spot = c.args.spot; pos = pos_in c.args.spot; rule = c.args.rule; root = c.root_of-root.result } in
     let the-tried : (Tried use-here use-here.start) = record {
       ready = rw (← c.root_of-root.ensures.0) at c.requires.ready;
       there = refl;
@@ -817,7 +857,9 @@ use_live-returns-then-reached-eq-STOPPED-clause-says t c =
 
 pub use_live-returns-then-reached-eq-FAILED-clause-says : goal.use_live-returns-then-reached-eq-FAILED-clause-says
 use_live-returns-then-reached-eq-FAILED-clause-says t c =
-    let use-here : Use = record { given = lent c.args.basis.now.table.now (numbers c.args.basis.now.given); line = c.args.basis.now.line.now; start = c.args.work.now.now; spot = c.args.spot; pos = pos_in c.args.spot; rule = c.args.rule; root = c.root_of-root.result } in
+    let given = lent c.args.basis.now.table.now (numbers c.args.basis.now.given) in
+    let line = c.args.basis.now.line.now in
+    let use-here : Use = record { given = given; line = line; start = c.args.work.now.now; spot = c.args.spot; pos = pos_in c.args.spot; rule = c.args.rule; root = c.root_of-root.result } in
     let the-tried : (Tried use-here use-here.start) = record {
       ready = rw (← c.root_of-root.ensures.0) at c.requires.ready;
       there = refl;
@@ -856,7 +898,9 @@ use_live-returns-then-reached-eq-FAILED-clause-says t c =
 
 pub use_live-returns-then-reached-end-clause-says : goal.use_live-returns-then-reached-end-clause-says
 use_live-returns-then-reached-end-clause-says t c =
-    let use-here : Use = record { given = lent c.args.basis.now.table.now (numbers c.args.basis.now.given); line = c.args.basis.now.line.now; start = c.args.work.now.now; spot = c.args.spot; pos = pos_in c.args.spot; rule = c.args.rule; root = c.root_of-root.result } in
+    let given = lent c.args.basis.now.table.now (numbers c.args.basis.now.given) in
+    let line = c.args.basis.now.line.now in
+    let use-here : Use = record { given = given; line = line; start = c.args.work.now.now; spot = c.args.spot; pos = pos_in c.args.spot; rule = c.args.rule; root = c.root_of-root.result } in
     let the-tried : (Tried use-here use-here.start) = record {
       ready = rw (← c.root_of-root.ensures.0) at c.requires.ready;
       there = refl;
@@ -907,7 +951,9 @@ keep_row-visit-a-requires t c =
 
 pub keep_row-go_back-last-requires : goal.keep_row-go_back-last-requires
 keep_row-go_back-last-requires t c =
-    let the-visited = child_visited (lent c.args.basis.now.table.now (numbers c.args.basis.now.given)) c.args.basis.now.line.now c.args.spot c.args.node c.loop-work.invariant.1.1.0 c.a_of-x.ensures.0 _ c.visit-a.ensures.says in
+    let given = lent c.args.basis.now.table.now (numbers c.args.basis.now.given) in
+    let line = c.args.basis.now.line.now in
+    let the-visited = child_visited given line c.args.spot c.args.node c.loop-work.invariant.1.1.0 c.a_of-x.ensures.0 _ c.visit-a.ensures.says in
     let at-loop = c.loop-work in
     let at_end_of = c.end_of-end in
     let at-if2 = c.if-end-eq-FAILED in
@@ -917,7 +963,9 @@ keep_row-go_back-last-requires t c =
 
 pub keep_row-go_back-last-requires-then-end-pos_of : goal.keep_row-go_back-last-requires-then-end-pos_of
 keep_row-go_back-last-requires-then-end-pos_of t c =
-    let the-visited = child_visited (lent c.args.basis.now.table.now (numbers c.args.basis.now.given)) c.args.basis.now.line.now c.args.spot c.args.node c.loop-work.invariant.1.1.0 c.a_of-x.ensures.0 _ c.visit-a.ensures.says in
+    let given = lent c.args.basis.now.table.now (numbers c.args.basis.now.given) in
+    let line = c.args.basis.now.line.now in
+    let the-visited = child_visited given line c.args.spot c.args.node c.loop-work.invariant.1.1.0 c.a_of-x.ensures.0 _ c.visit-a.ensures.says in
     let at-loop = c.loop-work in
     let at_end_of = c.end_of-end in
     let at-if3 = c.if-end-pos_of in
@@ -928,7 +976,9 @@ keep_row-go_back-last-requires-then-end-pos_of t c =
 
 pub keep_row-kept_answer-requires : goal.keep_row-kept_answer-requires
 keep_row-kept_answer-requires t c =
-    let the-visited = child_visited (lent c.args.basis.now.table.now (numbers c.args.basis.now.given)) c.args.basis.now.line.now c.args.spot c.args.node c.loop-work.invariant.1.1.0 c.a_of-x.ensures.0 _ c.visit-a.ensures.says in
+    let given = lent c.args.basis.now.table.now (numbers c.args.basis.now.given) in
+    let line = c.args.basis.now.line.now in
+    let the-visited = child_visited given line c.args.spot c.args.node c.loop-work.invariant.1.1.0 c.a_of-x.ensures.0 _ c.visit-a.ensures.says in
     let the-counted : (let words = c.visit-a.new.work.now in (made_in words < allowance_in (lent [] (numbers c.args.basis.now.given))) × (c.enter_in_place.new.work.now ≡ set words 2043 (made_in words + 1))) = counts (lent [] (numbers c.args.basis.now.given)) _ _ _ c.enter_in_place.ensures.says (ap code_in c.in_default.is) in
     let at_end_of = c.end_of-end in
     let at-if1 = c.if-end-eq-STOPPED in
@@ -944,7 +994,9 @@ keep_row-kept_answer-requires t c =
 
 pub keep_row-joined-both-requires-clause-lists : goal.keep_row-joined-both-requires-clause-lists
 keep_row-joined-both-requires-clause-lists t c =
-    let the-visited = child_visited (lent c.args.basis.now.table.now (numbers c.args.basis.now.given)) c.args.basis.now.line.now c.args.spot c.args.node c.loop-work.invariant.1.1.0 c.a_of-x.ensures.0 _ c.visit-a.ensures.says in
+    let given = lent c.args.basis.now.table.now (numbers c.args.basis.now.given) in
+    let line = c.args.basis.now.line.now in
+    let the-visited = child_visited given line c.args.spot c.args.node c.loop-work.invariant.1.1.0 c.a_of-x.ensures.0 _ c.visit-a.ensures.says in
     let the-counted : (let words = c.visit-a.new.work.now in (made_in words < allowance_in (lent [] (numbers c.args.basis.now.given))) × (c.enter_in_place.new.work.now ≡ set words 2043 (made_in words + 1))) = counts (lent [] (numbers c.args.basis.now.given)) _ _ _ c.enter_in_place.ensures.says (ap code_in c.in_default.is) in
     let the-looked : (c.kept_answer.new.work.now ≡ set c.visit-a.new.work.now 2043 (made_in c.visit-a.new.work.now + 1)) = ap (λ r. r.now) c.kept_answer.ensures.1 ∙ the-counted.1 in
     let the-found : KeptIn (lent [] (numbers c.args.basis.now.given)) (set c.visit-a.new.work.now 2043 (made_in c.visit-a.new.work.now + 1)) c.args.node (end_in c.visit-a.result) (Some c.in-Some.rest) = rw (c.end_of-end.ensures, the-counted.1) at c.in-Some.ensures.0 in
@@ -964,7 +1016,9 @@ keep_row-joined-both-requires-clause-lists t c =
 
 pub keep_row-go_back-last-requires-in-Some : goal.keep_row-go_back-last-requires-in-Some
 keep_row-go_back-last-requires-in-Some t c =
-    let the-visited = child_visited (lent c.args.basis.now.table.now (numbers c.args.basis.now.given)) c.args.basis.now.line.now c.args.spot c.args.node c.loop-work.invariant.1.1.0 c.a_of-x.ensures.0 _ c.visit-a.ensures.says in
+    let given = lent c.args.basis.now.table.now (numbers c.args.basis.now.given) in
+    let line = c.args.basis.now.line.now in
+    let the-visited = child_visited given line c.args.spot c.args.node c.loop-work.invariant.1.1.0 c.a_of-x.ensures.0 _ c.visit-a.ensures.says in
     let the-counted : (let words = c.visit-a.new.work.now in (made_in words < allowance_in (lent [] (numbers c.args.basis.now.given))) × (c.enter_in_place.new.work.now ≡ set words 2043 (made_in words + 1))) = counts (lent [] (numbers c.args.basis.now.given)) _ _ _ c.enter_in_place.ensures.says (ap code_in c.in_default.is) in
     let the-looked : (c.kept_answer.new.work.now ≡ set c.visit-a.new.work.now 2043 (made_in c.visit-a.new.work.now + 1)) = ap (λ r. r.now) c.kept_answer.ensures.1 ∙ the-counted.1 in
     let the-found : KeptIn (lent [] (numbers c.args.basis.now.given)) (set c.visit-a.new.work.now 2043 (made_in c.visit-a.new.work.now + 1)) c.args.node (end_in c.visit-a.result) (Some c.in-Some.rest) = rw (c.end_of-end.ensures, the-counted.1) at c.in-Some.ensures.0 in
@@ -1010,7 +1064,9 @@ keep_row-loop-work-smaller t c =
 
 pub keep_row-loop-work-preserved : goal.keep_row-loop-work-preserved
 keep_row-loop-work-preserved t c =
-    let the-visited = child_visited (lent c.args.basis.now.table.now (numbers c.args.basis.now.given)) c.args.basis.now.line.now c.args.spot c.args.node c.loop-work.invariant.1.1.0 c.a_of-x.ensures.0 _ c.visit-a.ensures.says in
+    let given = lent c.args.basis.now.table.now (numbers c.args.basis.now.given) in
+    let line = c.args.basis.now.line.now in
+    let the-visited = child_visited given line c.args.spot c.args.node c.loop-work.invariant.1.1.0 c.a_of-x.ensures.0 _ c.visit-a.ensures.says in
     let the-counted : (let words = c.visit-a.new.work.now in (made_in words < allowance_in (lent [] (numbers c.args.basis.now.given))) × (c.enter_in_place.new.work.now ≡ set words 2043 (made_in words + 1))) = counts (lent [] (numbers c.args.basis.now.given)) _ _ _ c.enter_in_place.ensures.says (ap code_in c.in_default.is) in
     let the-looked : (c.kept_answer.new.work.now ≡ set c.visit-a.new.work.now 2043 (made_in c.visit-a.new.work.now + 1)) = ap (λ r. r.now) c.kept_answer.ensures.1 ∙ the-counted.1 in
     let at_end_of = c.end_of-end in
@@ -1028,7 +1084,7 @@ keep_row-loop-work-preserved t c =
     let match = matched at_end_of.ensures the-visited.came.end_most at-if1.false at-if2.false in
     let less = let e = at_end_of.ensures in let q : end_in at-visit.result < STOPPED = omega arith in q in
     let other = let q : end_in at-visit.result ≢ pos_in at-loop.here = λ e. at-if3.false (at_end_of.ensures ∙ e ∙ sym at-pos-of2.ensures) in q in
-    let none : get_or (set c.visit-a.new.work.now 2043 (made_in c.visit-a.new.work.now + 1)) (place_in (lent c.args.basis.now.table.now (numbers c.args.basis.now.given)) c.args.node (end_in c.visit-a.result)) 0 ≡ 0 = rw (c.end_of-end.ensures, the-counted.1) at c.in_default-kept_answer.ensures.0 in
+    let none : get_or (set c.visit-a.new.work.now 2043 (made_in c.visit-a.new.work.now + 1)) (place_in given c.args.node (end_in c.visit-a.result)) 0 ≡ 0 = rw (c.end_of-end.ensures, the-counted.1) at c.in_default-kept_answer.ensures.0 in
     let on = at_moved.ensures in
     let here = at-loop.invariant.1.1.0 in
     let turns = ap turns_in the-looked ∙ kept_row.still_turns _ _ _ _ _ c.requires.ready c.requires.«open».0 c.requires.«open».1 c.requires.free at-loop.invariant.0 _ the-visited less other the-counted.0 in
@@ -1038,7 +1094,9 @@ keep_row-loop-work-preserved t c =
 
 pub keep_row-returns-then-end-eq-STOPPED-clause-says : goal.keep_row-returns-then-end-eq-STOPPED-clause-says
 keep_row-returns-then-end-eq-STOPPED-clause-says t c =
-    let the-visited = child_visited (lent c.args.basis.now.table.now (numbers c.args.basis.now.given)) c.args.basis.now.line.now c.args.spot c.args.node c.loop-work.invariant.1.1.0 c.a_of-x.ensures.0 _ c.visit-a.ensures.says in
+    let given = lent c.args.basis.now.table.now (numbers c.args.basis.now.given) in
+    let line = c.args.basis.now.line.now in
+    let the-visited = child_visited given line c.args.spot c.args.node c.loop-work.invariant.1.1.0 c.a_of-x.ensures.0 _ c.visit-a.ensures.says in
     let at-loop = c.loop-work in
     let at_end_of = c.end_of-end in
     let at-if1 = c.if-end-eq-STOPPED in
@@ -1048,7 +1106,9 @@ keep_row-returns-then-end-eq-STOPPED-clause-says t c =
 
 pub keep_row-returns-then-end-eq-FAILED-clause-says : goal.keep_row-returns-then-end-eq-FAILED-clause-says
 keep_row-returns-then-end-eq-FAILED-clause-says t c =
-    let the-visited = child_visited (lent c.args.basis.now.table.now (numbers c.args.basis.now.given)) c.args.basis.now.line.now c.args.spot c.args.node c.loop-work.invariant.1.1.0 c.a_of-x.ensures.0 _ c.visit-a.ensures.says in
+    let given = lent c.args.basis.now.table.now (numbers c.args.basis.now.given) in
+    let line = c.args.basis.now.line.now in
+    let the-visited = child_visited given line c.args.spot c.args.node c.loop-work.invariant.1.1.0 c.a_of-x.ensures.0 _ c.visit-a.ensures.says in
     let at-loop = c.loop-work in
     let at_end_of = c.end_of-end in
     let at-if2 = c.if-end-eq-FAILED in
@@ -1060,7 +1120,9 @@ keep_row-returns-then-end-eq-FAILED-clause-says t c =
 
 pub keep_row-returns-then-end-pos_of-clause-says : goal.keep_row-returns-then-end-pos_of-clause-says
 keep_row-returns-then-end-pos_of-clause-says t c =
-    let the-visited = child_visited (lent c.args.basis.now.table.now (numbers c.args.basis.now.given)) c.args.basis.now.line.now c.args.spot c.args.node c.loop-work.invariant.1.1.0 c.a_of-x.ensures.0 _ c.visit-a.ensures.says in
+    let given = lent c.args.basis.now.table.now (numbers c.args.basis.now.given) in
+    let line = c.args.basis.now.line.now in
+    let the-visited = child_visited given line c.args.spot c.args.node c.loop-work.invariant.1.1.0 c.a_of-x.ensures.0 _ c.visit-a.ensures.says in
     let at-loop = c.loop-work in
     let at_end_of = c.end_of-end in
     let at-if3 = c.if-end-pos_of in
@@ -1073,7 +1135,9 @@ keep_row-returns-then-end-pos_of-clause-says t c =
 
 pub keep_row-returns-in-Err-clause-says : goal.keep_row-returns-in-Err-clause-says
 keep_row-returns-in-Err-clause-says t c =
-    let the-visited = child_visited (lent c.args.basis.now.table.now (numbers c.args.basis.now.given)) c.args.basis.now.line.now c.args.spot c.args.node c.loop-work.invariant.1.1.0 c.a_of-x.ensures.0 _ c.visit-a.ensures.says in
+    let given = lent c.args.basis.now.table.now (numbers c.args.basis.now.given) in
+    let line = c.args.basis.now.line.now in
+    let the-visited = child_visited given line c.args.spot c.args.node c.loop-work.invariant.1.1.0 c.a_of-x.ensures.0 _ c.visit-a.ensures.says in
     let at_end_of = c.end_of-end in
     let at-if1 = c.if-end-eq-STOPPED in
     let at-if2 = c.if-end-eq-FAILED in
@@ -1088,7 +1152,9 @@ keep_row-returns-in-Err-clause-says t c =
 
 pub keep_row-returns-in-Some-clause-says : goal.keep_row-returns-in-Some-clause-says
 keep_row-returns-in-Some-clause-says t c =
-    let the-visited = child_visited (lent c.args.basis.now.table.now (numbers c.args.basis.now.given)) c.args.basis.now.line.now c.args.spot c.args.node c.loop-work.invariant.1.1.0 c.a_of-x.ensures.0 _ c.visit-a.ensures.says in
+    let given = lent c.args.basis.now.table.now (numbers c.args.basis.now.given) in
+    let line = c.args.basis.now.line.now in
+    let the-visited = child_visited given line c.args.spot c.args.node c.loop-work.invariant.1.1.0 c.a_of-x.ensures.0 _ c.visit-a.ensures.says in
     let the-counted : (let words = c.visit-a.new.work.now in (made_in words < allowance_in (lent [] (numbers c.args.basis.now.given))) × (c.enter_in_place.new.work.now ≡ set words 2043 (made_in words + 1))) = counts (lent [] (numbers c.args.basis.now.given)) _ _ _ c.enter_in_place.ensures.says (ap code_in c.in_default.is) in
     let the-looked : (c.kept_answer.new.work.now ≡ set c.visit-a.new.work.now 2043 (made_in c.visit-a.new.work.now + 1)) = ap (λ r. r.now) c.kept_answer.ensures.1 ∙ the-counted.1 in
     let the-found : KeptIn (lent [] (numbers c.args.basis.now.given)) (set c.visit-a.new.work.now 2043 (made_in c.visit-a.new.work.now + 1)) c.args.node (end_in c.visit-a.result) (Some c.in-Some.rest) = rw (c.end_of-end.ensures, the-counted.1) at c.in-Some.ensures.0 in
@@ -1142,25 +1208,33 @@ visit-returns-in-Err-clause-says t c =
 
 pub visit-visit_open-requires : goal.visit-visit_open-requires
 visit-visit_open-requires t c =
-    let the-opened : (Opened (lent c.args.basis.now.table.now (numbers c.args.basis.now.given)) c.args.basis.now.line.now c.args.work.now.now c.enter.new.work.now c.args.spot c.args.node) = entered_open _ _ _ _ _ c.requires.ready c.enter.ensures.says (ap code_in c.in_default.is) in
+    let given = lent c.args.basis.now.table.now (numbers c.args.basis.now.given) in
+    let line = c.args.basis.now.line.now in
+    let the-opened : (Opened given line c.args.work.now.now c.enter.new.work.now c.args.spot c.args.node) = entered_open _ _ _ _ _ c.requires.ready c.enter.ensures.says (ap code_in c.in_default.is) in
     let o = the-opened in
     (omega (arith, c.decreases, left_less c.args.spot o.some), (o.starts, (o.space, keeps_no _ c.if-basis-eq0.true)))
 
 pub visit-returns-then-basis-eq0-clause-says : goal.visit-returns-then-basis-eq0-clause-says
 visit-returns-then-basis-eq0-clause-says t c =
-    let the-opened : (Opened (lent c.args.basis.now.table.now (numbers c.args.basis.now.given)) c.args.basis.now.line.now c.args.work.now.now c.enter.new.work.now c.args.spot c.args.node) = entered_open _ _ _ _ _ c.requires.ready c.enter.ensures.says (ap code_in c.in_default.is) in
+    let given = lent c.args.basis.now.table.now (numbers c.args.basis.now.given) in
+    let line = c.args.basis.now.line.now in
+    let the-opened : (Opened given line c.args.work.now.now c.enter.new.work.now c.args.spot c.args.node) = entered_open _ _ _ _ _ c.requires.ready c.enter.ensures.says (ap code_in c.in_default.is) in
     opened _ _ _ _ _ c.requires.ready the-opened _ _ c.visit_open.ensures.says
 
 pub visit-kept_answer-requires : goal.visit-kept_answer-requires
 visit-kept_answer-requires t c =
-    let the-opened : (Opened (lent c.args.basis.now.table.now (numbers c.args.basis.now.given)) c.args.basis.now.line.now c.args.work.now.now c.enter.new.work.now c.args.spot c.args.node) = entered_open _ _ _ _ _ c.requires.ready c.enter.ensures.says (ap code_in c.in_default.is) in
+    let given = lent c.args.basis.now.table.now (numbers c.args.basis.now.given) in
+    let line = c.args.basis.now.line.now in
+    let the-opened : (Opened given line c.args.work.now.now c.enter.new.work.now c.args.spot c.args.node) = entered_open _ _ _ _ _ c.requires.ready c.enter.ensures.says (ap code_in c.in_default.is) in
     let the-roomy : (Roomy (lent [] (numbers c.args.basis.now.given)) c.enter.new.work.now c.args.node c.pos_of-pos.result) = let starts = the-opened.starts in
-    rw (c.pos_of-pos.ensures ∙ sym the-opened.there) (roomy (lent c.args.basis.now.table.now (numbers c.args.basis.now.given)) _ _ _ _ starts.fit (keeps_yes _ c.if-basis-eq0.false) starts.words.room starts.node_in starts.pos_within) in
+    rw (c.pos_of-pos.ensures ∙ sym the-opened.there) (roomy given _ _ _ _ starts.fit (keeps_yes _ c.if-basis-eq0.false) starts.words.room starts.node_in starts.pos_within) in
     the-roomy
 
 pub visit-returns-in-Some-clause-says : goal.visit-returns-in-Some-clause-says
 visit-returns-in-Some-clause-says t c =
-    let the-opened : (Opened (lent c.args.basis.now.table.now (numbers c.args.basis.now.given)) c.args.basis.now.line.now c.args.work.now.now c.enter.new.work.now c.args.spot c.args.node) = entered_open _ _ _ _ _ c.requires.ready c.enter.ensures.says (ap code_in c.in_default.is) in
+    let given = lent c.args.basis.now.table.now (numbers c.args.basis.now.given) in
+    let line = c.args.basis.now.line.now in
+    let the-opened : (Opened given line c.args.work.now.now c.enter.new.work.now c.args.spot c.args.node) = entered_open _ _ _ _ _ c.requires.ready c.enter.ensures.says (ap code_in c.in_default.is) in
     let same : c.kept_answer.new.work.now ≡ c.enter.new.work.now = ap (λ r. r.now) c.kept_answer.ensures.1 in
     let o = the-opened in
     let there = c.pos_of-pos.ensures ∙ sym o.there in
@@ -1212,16 +1286,20 @@ visit-returns-then-kind_of-eq1-clause-says t c =
 
 pub visit-apply-requires : goal.visit-apply-requires
 visit-apply-requires t c =
-    let the-opened : (Opened (lent c.args.basis.now.table.now (numbers c.args.basis.now.given)) c.args.basis.now.line.now c.args.work.now.now c.enter.new.work.now c.args.spot c.args.node) = entered_open _ _ _ _ _ c.requires.ready c.enter.ensures.says (ap code_in c.in_default.is) in
+    let given = lent c.args.basis.now.table.now (numbers c.args.basis.now.given) in
+    let line = c.args.basis.now.line.now in
+    let the-opened : (Opened given line c.args.work.now.now c.enter.new.work.now c.args.spot c.args.node) = entered_open _ _ _ _ _ c.requires.ready c.enter.ensures.says (ap code_in c.in_default.is) in
     let same : c.kept_answer.new.work.now ≡ c.enter.new.work.now = ap (λ r. r.now) c.kept_answer.ensures.1 in
     let o = the-opened in
     let free = keeps_yes _ c.if-basis-eq0.false in
-    let none : get_or c.enter.new.work.now (place_in (lent c.args.basis.now.table.now (numbers c.args.basis.now.given)) c.args.node (pos_in (c.args.spot - 1))) 0 ≡ 0 = rw (c.pos_of-pos.ensures ∙ sym o.there) at c.in_default-kept_answer.ensures.0 in
+    let none : get_or c.enter.new.work.now (place_in given c.args.node (pos_in (c.args.spot - 1))) 0 ≡ 0 = rw (c.pos_of-pos.ensures ∙ sym o.there) at c.in_default-kept_answer.ensures.0 in
     (omega (arith, c.decreases, left_less c.args.spot o.some), (rw same o.starts, (o.space, (λ _. free, λ _. rw same none))))
 
 pub visit-returns-clause-says : goal.visit-returns-clause-says
 visit-returns-clause-says t c =
-    let the-opened : (Opened (lent c.args.basis.now.table.now (numbers c.args.basis.now.given)) c.args.basis.now.line.now c.args.work.now.now c.enter.new.work.now c.args.spot c.args.node) = entered_open _ _ _ _ _ c.requires.ready c.enter.ensures.says (ap code_in c.in_default.is) in
+    let given = lent c.args.basis.now.table.now (numbers c.args.basis.now.given) in
+    let line = c.args.basis.now.line.now in
+    let the-opened : (Opened given line c.args.work.now.now c.enter.new.work.now c.args.spot c.args.node) = entered_open _ _ _ _ _ c.requires.ready c.enter.ensures.says (ap code_in c.in_default.is) in
     let same : c.kept_answer.new.work.now ≡ c.enter.new.work.now = ap (λ r. r.now) c.kept_answer.ensures.1 in
     opened _ _ _ _ _ c.requires.ready the-opened _ _ (rw same at c.apply.ensures.says)
 
@@ -1239,7 +1317,9 @@ visit_row-visit-turn-requires t c =
 
 pub visit_row-loop-turn-smaller : goal.visit_row-loop-turn-smaller
 visit_row-loop-turn-smaller t c =
-    let the-visited = child_visited (lent c.args.basis.now.table.now (numbers c.args.basis.now.given)) c.args.basis.now.line.now c.args.spot c.args.node c.loop-turn.invariant.1.0 c.a_of-x.ensures.0 _ c.visit-turn.ensures.says in
+    let given = lent c.args.basis.now.table.now (numbers c.args.basis.now.given) in
+    let line = c.args.basis.now.line.now in
+    let the-visited = child_visited given line c.args.spot c.args.node c.loop-turn.invariant.1.0 c.a_of-x.ensures.0 _ c.visit-turn.ensures.says in
     let at_end_of = c.end_of-end in
     let at-if1 = c.if-end-eq-STOPPED in
     let at-if2 = c.if-end-eq-FAILED in
@@ -1257,7 +1337,9 @@ visit_row-loop-turn-smaller t c =
 
 pub visit_row-loop-turn-preserved : goal.visit_row-loop-turn-preserved
 visit_row-loop-turn-preserved t c =
-    let the-visited = child_visited (lent c.args.basis.now.table.now (numbers c.args.basis.now.given)) c.args.basis.now.line.now c.args.spot c.args.node c.loop-turn.invariant.1.0 c.a_of-x.ensures.0 _ c.visit-turn.ensures.says in
+    let given = lent c.args.basis.now.table.now (numbers c.args.basis.now.given) in
+    let line = c.args.basis.now.line.now in
+    let the-visited = child_visited given line c.args.spot c.args.node c.loop-turn.invariant.1.0 c.a_of-x.ensures.0 _ c.visit-turn.ensures.says in
     let at_end_of = c.end_of-end in
     let at-if1 = c.if-end-eq-STOPPED in
     let at-if2 = c.if-end-eq-FAILED in
@@ -1282,7 +1364,9 @@ visit_row-loop-turn-preserved t c =
 
 pub visit_row-returns-then-end-eq-STOPPED-clause-says : goal.visit_row-returns-then-end-eq-STOPPED-clause-says
 visit_row-returns-then-end-eq-STOPPED-clause-says t c =
-    let the-visited = child_visited (lent c.args.basis.now.table.now (numbers c.args.basis.now.given)) c.args.basis.now.line.now c.args.spot c.args.node c.loop-turn.invariant.1.0 c.a_of-x.ensures.0 _ c.visit-turn.ensures.says in
+    let given = lent c.args.basis.now.table.now (numbers c.args.basis.now.given) in
+    let line = c.args.basis.now.line.now in
+    let the-visited = child_visited given line c.args.spot c.args.node c.loop-turn.invariant.1.0 c.a_of-x.ensures.0 _ c.visit-turn.ensures.says in
     let at-loop = c.loop-turn in
     let at_end_of = c.end_of-end in
     let at-if1 = c.if-end-eq-STOPPED in
@@ -1291,7 +1375,9 @@ visit_row-returns-then-end-eq-STOPPED-clause-says t c =
 
 pub visit_row-returns-then-end-eq-FAILED-clause-says : goal.visit_row-returns-then-end-eq-FAILED-clause-says
 visit_row-returns-then-end-eq-FAILED-clause-says t c =
-    let the-visited = child_visited (lent c.args.basis.now.table.now (numbers c.args.basis.now.given)) c.args.basis.now.line.now c.args.spot c.args.node c.loop-turn.invariant.1.0 c.a_of-x.ensures.0 _ c.visit-turn.ensures.says in
+    let given = lent c.args.basis.now.table.now (numbers c.args.basis.now.given) in
+    let line = c.args.basis.now.line.now in
+    let the-visited = child_visited given line c.args.spot c.args.node c.loop-turn.invariant.1.0 c.a_of-x.ensures.0 _ c.visit-turn.ensures.says in
     let at-loop = c.loop-turn in
     let at_end_of = c.end_of-end in
     let at-if2 = c.if-end-eq-FAILED in
@@ -1302,7 +1388,9 @@ visit_row-returns-then-end-eq-FAILED-clause-says t c =
 
 pub visit_row-returns-then-end-pos_of-clause-says : goal.visit_row-returns-then-end-pos_of-clause-says
 visit_row-returns-then-end-pos_of-clause-says t c =
-    let the-visited = child_visited (lent c.args.basis.now.table.now (numbers c.args.basis.now.given)) c.args.basis.now.line.now c.args.spot c.args.node c.loop-turn.invariant.1.0 c.a_of-x.ensures.0 _ c.visit-turn.ensures.says in
+    let given = lent c.args.basis.now.table.now (numbers c.args.basis.now.given) in
+    let line = c.args.basis.now.line.now in
+    let the-visited = child_visited given line c.args.spot c.args.node c.loop-turn.invariant.1.0 c.a_of-x.ensures.0 _ c.visit-turn.ensures.says in
     let at-if3 = c.if-end-pos_of in
     let at-pos-of2 = c.pos_of-in-loop-turn in
     let at-loop = c.loop-turn in
@@ -1314,7 +1402,9 @@ visit_row-returns-then-end-pos_of-clause-says t c =
 
 pub visit_row-returns-in-Err-clause-says : goal.visit_row-returns-in-Err-clause-says
 visit_row-returns-in-Err-clause-says t c =
-    let the-visited = child_visited (lent c.args.basis.now.table.now (numbers c.args.basis.now.given)) c.args.basis.now.line.now c.args.spot c.args.node c.loop-turn.invariant.1.0 c.a_of-x.ensures.0 _ c.visit-turn.ensures.says in
+    let given = lent c.args.basis.now.table.now (numbers c.args.basis.now.given) in
+    let line = c.args.basis.now.line.now in
+    let the-visited = child_visited given line c.args.spot c.args.node c.loop-turn.invariant.1.0 c.a_of-x.ensures.0 _ c.visit-turn.ensures.says in
     let at_end_of = c.end_of-end in
     let at-if1 = c.if-end-eq-STOPPED in
     let at-if2 = c.if-end-eq-FAILED in
