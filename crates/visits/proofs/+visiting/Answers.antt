@@ -1,3 +1,4 @@
+-- The answers for the functions that call one another, function by function. They stand in one file, since no other is read for their goals.
 use Prim.Native.Nat.{◌*◌, ◌+◌, ◌-◌, ◌<◌, ◌≤◌}
 use Rattle.cells.specs.Cells.{trees_at}
 use Rattle.layout.proofs.Laying.{well_laid}
@@ -28,6 +29,8 @@ use Rattle.visits.proofs.+visiting.Goals as goal
 use Rattle.std.specs.Prelude.{Some}
 use Rattle.visits.specs.Words.{code_of, code_in}
 use Rattle.visits.proofs.Entering.{code_some}
+
+-- ---- apply: a node is applied, by its kind; then its answer is kept, where answers are.
 
 pub apply-use_once-done-requires : goal.apply-use_once-done-requires
 apply-use_once-done-requires t c =
@@ -60,10 +63,10 @@ apply-returns-then-basis-eq0-clause-says t c =
     let given = lent c.args.basis.now.table.now (numbers c.args.basis.now.given) in
     let line = c.args.basis.now.line.now in
     let the-met : (
-        Ends given line c.args.work.now.now c.match-kind_of.work.now c.args.spot c.match-kind_of.done
-            (λ l s. applies given line (left_in c.args.spot) l c.args.node (pos_in c.args.spot) s)
-        × (c.match-kind_of.work.ghost_name ≡ c.args.work.now.ghost_name))
-      = let ready = c.requires.ready in
+    Ends given line c.args.work.now.now c.match-kind_of.work.now c.args.spot c.match-kind_of.done
+    (λ l s. applies given line (left_in c.args.spot) l c.args.node (pos_in c.args.spot) s)
+    × (c.match-kind_of.work.ghost_name ≡ c.args.work.now.ghost_name))
+    = let ready = c.requires.ready in
     let fit = ready.fit in
     let kind = sym c.kind_of.ensures.0 in
     elim c.match-kind_of.branch [
@@ -123,10 +126,10 @@ apply-keep-requires t c =
     let given = lent c.args.basis.now.table.now (numbers c.args.basis.now.given) in
     let line = c.args.basis.now.line.now in
     let the-met : (
-        Ends given line c.args.work.now.now c.match-kind_of.work.now c.args.spot c.match-kind_of.done
-            (λ l s. applies given line (left_in c.args.spot) l c.args.node (pos_in c.args.spot) s)
-        × (c.match-kind_of.work.ghost_name ≡ c.args.work.now.ghost_name))
-      = let ready = c.requires.ready in
+    Ends given line c.args.work.now.now c.match-kind_of.work.now c.args.spot c.match-kind_of.done
+    (λ l s. applies given line (left_in c.args.spot) l c.args.node (pos_in c.args.spot) s)
+    × (c.match-kind_of.work.ghost_name ≡ c.args.work.now.ghost_name))
+    = let ready = c.requires.ready in
     let fit = ready.fit in
     let kind = sym c.kind_of.ensures.0 in
     elim c.match-kind_of.branch [
@@ -191,10 +194,10 @@ apply-returns-clause-says t c =
     let given = lent c.args.basis.now.table.now (numbers c.args.basis.now.given) in
     let line = c.args.basis.now.line.now in
     let the-met : (
-        Ends given line c.args.work.now.now c.match-kind_of.work.now c.args.spot c.match-kind_of.done
-            (λ l s. applies given line (left_in c.args.spot) l c.args.node (pos_in c.args.spot) s)
-        × (c.match-kind_of.work.ghost_name ≡ c.args.work.now.ghost_name))
-      = let ready = c.requires.ready in
+    Ends given line c.args.work.now.now c.match-kind_of.work.now c.args.spot c.match-kind_of.done
+    (λ l s. applies given line (left_in c.args.spot) l c.args.node (pos_in c.args.spot) s)
+    × (c.match-kind_of.work.ghost_name ≡ c.args.work.now.ghost_name))
+    = let ready = c.requires.ready in
     let fit = ready.fit in
     let kind = sym c.kind_of.ensures.0 in
     elim c.match-kind_of.branch [
@@ -255,6 +258,8 @@ apply-returns-clause-says t c =
     let kept = rw (at-pos-of4.ensures, at_end_of.ensures, at-list-of.ensures) at at-keep.ensures in
     open_applied given _ _ _ _ _ ready c.requires.«open» free _ refl _ (c.requires.kept.1 free) _ _ met.0 kept
 
+-- ---- use_fresh: a use of a rule that is not live.
+
 pub use_fresh-has_rule-requires : goal.use_fresh-has_rule-requires
 use_fresh-has_rule-requires t c =
     let the-small : (c.args.rule < 64) = omega (arith, c.requires.«open».1, (well_laid _ c.requires.ready.fit.laid).few_rules) in
@@ -282,6 +287,8 @@ use_fresh-returns-clause-says t c =
     let once = c.use_once.ensures.says in
     let still = the-bit ∙ c.if-has_rule.false in
     record { came = uses_once _ _ c.requires.ready.fit _ _ _ (inr still) _ c.requires.«open».1 refl once.came; cells = once.cells; ahead = once.ahead }
+
+-- ---- use_once: a use whose root is visited once.
 
 pub use_once-returns-then-end-ge-STOPPED-clause-says : goal.use_once-returns-then-end-ge-STOPPED-clause-says
 use_once-returns-then-end-ge-STOPPED-clause-says t c =
@@ -327,6 +334,8 @@ use_once-returns-clause-says t c =
       ahead = λ p. omega (arith, at-visit.ensures.says.ahead p, at_end_of.ensures, at-answer.ensures.0);
     }
 
+-- ---- visit_choice: a choice.
+
 pub visit_choice-returns-then-end-ne-FAILED-clause-says : goal.visit_choice-returns-then-end-ne-FAILED-clause-says
 visit_choice-returns-then-end-ne-FAILED-clause-says t c =
     let given = lent c.args.basis.now.table.now (numbers c.args.basis.now.given) in
@@ -360,6 +369,8 @@ visit_choice-returns-clause-says t c =
     let first = at-visit.ensures.says in
     let next = at-visit2.ensures.says in
     record { came = choice_second _ _ ready.fit visiting _ _ first.came _ (sym at_end_of.ensures ∙ at-if1.false) next.came; cells = omega (arith, first.cells, next.cells); ahead = next.ahead }
+
+-- ---- visit_not: a not.
 
 pub visit_not-returns-then-end-eq-STOPPED-clause-says : goal.visit_not-returns-then-end-eq-STOPPED-clause-says
 visit_not-returns-then-end-eq-STOPPED-clause-says t c =
@@ -408,6 +419,8 @@ visit_not-returns-clause-says t c =
       cells = first.cells;
       ahead = λ p. omega (arith, at-answer2.ensures.0, ready.pos_within, ready.fit.short);
     }
+
+-- ---- visit_open: an open visit, by its kind.
 
 pub visit_open-use_rule-requires : goal.visit_open-use_rule-requires
 visit_open-use_rule-requires t c =
@@ -461,6 +474,8 @@ visit_open-returns-in-4-clause-says t c =
     let at-visit-pair2 = c.visit_pair-in-4 in
     plain_opens given line c.args.work.now.now c.args.spot c.args.node (pos_in c.args.spot) c.requires.ready c.requires.«open».1 _ _ at-visit-pair2.ensures.says
 
+-- ---- visit_pair: a sequence or a choice, by its kind.
+
 pub visit_pair-visit_sequence-requires : goal.visit_pair-visit_sequence-requires
 visit_pair-visit_sequence-requires t c =
     let at-a-of = c.a_of-x in
@@ -512,6 +527,8 @@ visit_pair-returns-clause-says t c =
       cells = at-visit-choice.ensures.says.cells;
       ahead = at-visit-choice.ensures.says.ahead;
     }
+
+-- ---- visit_sequence: a sequence.
 
 pub visit_sequence-returns-then-end-ge-STOPPED-clause-says : goal.visit_sequence-returns-then-end-ge-STOPPED-clause-says
 visit_sequence-returns-then-end-ge-STOPPED-clause-says t c =
@@ -569,6 +586,8 @@ visit_sequence-returns-clause-says t c =
     let next = ends_moved _ _ at_moved.ensures _ _ at-visit2.ensures.says in
     let same = at-visit2.ensures.lent ∙ at-visit.ensures.lent in sequence_joined _ _ _ _ _ _ ready first _ at_end_of.ensures at-if1.false _ _ next _ at-end-of2.ensures at-if2.false
     at-list-of.ensures at-list-of2.ensures room.0 _ at_joined.ensures.0 at_joined.ensures.1
+
+-- ---- use_live: a use that becomes live and grows, attempt by attempt.
 
 pub use_live-visit-first-requires : goal.use_live-visit-first-requires
 use_live-visit-first-requires t c =
@@ -937,6 +956,8 @@ use_live-returns-then-reached-end-clause-says t c =
     let held = c.answer-last-then-reached-end.ensures.1 ∙ c.loop-next.invariant.1.0 in
     held_ends _ the-turned _ c.answer-last-then-reached-end.ensures.0 held (inr (omega (arith, c.end_of-reached-in-loop-next.ensures, c.if-reached-end.true)))
 
+-- ---- keep_row: a repetition where answers are kept, and the way back over the row.
+
 pub keep_row-loop-work-init : goal.keep_row-loop-work-init
 keep_row-loop-work-init t c =
     (kept_row.begins _ _ _ _ _ c.requires.ready c.requires.«open».0 c.requires.«open».1 c.requires.free, (refl, (record { left = refl; live = refl; there = refl }, refl)))
@@ -1059,8 +1080,11 @@ keep_row-loop-work-smaller t c =
     let other = let q : end_in at-visit.result ≢ pos_in at-loop.here = λ e. at-if3.false (at_end_of.ensures ∙ e ∙ sym at-pos-of2.ensures) in q in
     let none : get_or (set c.visit-a.new.work.now 2043 (made_in c.visit-a.new.work.now + 1)) (place_in given c.args.node (end_in c.visit-a.result)) 0 ≡ 0 = rw (c.end_of-end.ensures, the-counted.1) at c.in_default-kept_answer.ensures.0 in
     kept_row.nearer _ _ _ _ _ c.requires.ready c.requires.«open».0 c.requires.«open».1 c.requires.free at-loop.invariant.0 _ the-visited less other the-counted.0 none _
-        (rw ((ap turns_in the-looked ∙ kept_row.still_turns _ _ _ _ _ c.requires.ready c.requires.«open».0 c.requires.«open».1 c.requires.free at-loop.invariant.0 _ the-visited less other the-counted.0),
-        the-looked, at-pos-of4.ensures) at at-put-turn.ensures)
+    (rw (
+      (ap turns_in the-looked ∙ kept_row.still_turns _ _ _ _ _ c.requires.ready c.requires.«open».0 c.requires.«open».1 c.requires.free at-loop.invariant.0 _ the-visited less other the-counted.0),
+      the-looked,
+      at-pos-of4.ensures,
+    ) at at-put-turn.ensures)
 
 pub keep_row-loop-work-preserved : goal.keep_row-loop-work-preserved
 keep_row-loop-work-preserved t c =
@@ -1179,6 +1203,8 @@ keep_row-returns-in-Some-clause-says t c =
     let ended = kept_row.found_ends _ _ _ _ _ c.requires.ready c.requires.«open».0 c.requires.«open».1 c.requires.free at-loop.invariant.0 _ the-visited less other the-counted.0 _ refl (omega (arith, the-found.0)) _ the-found.1 _ end both _ at-loop.invariant.1.1.0 _ at-go-back3.ensures.says in
     ended
 
+-- ---- use_rule: a use where nothing is kept: what is held, if it is live.
+
 pub use_rule-live_use-requires-clause-few : goal.use_rule-live_use-requires-clause-few
 use_rule-live_use-requires-clause-few t c =
     let the-small : (c.args.rule < 64) = omega (arith, c.requires.«open».1, (well_laid _ c.requires.ready.fit.laid).few_rules) in
@@ -1199,6 +1225,8 @@ use_rule-returns-in-Some-clause-says t c =
     let live = found_some (lent [] (numbers c.args.basis.now.given)) c.args.work.now.now c.args.spot c.args.rule (c.in-Some.live + 1) c.in-Some.ensures.0 (omega arith) in
     let holds = rw same at c.held_by.ensures.0 in
     rw (ap (λ w. w.now) c.held_by.ensures.1, same) (answers_held _ _ _ _ _ _ _ _ _ c.requires.ready c.requires.plain live.0 small live.1 holds refl)
+
+-- ---- visit: a visit: the answer that is kept, a range, or a node that is applied.
 
 pub visit-returns-in-Err-clause-says : goal.visit-returns-in-Err-clause-says
 visit-returns-in-Err-clause-says t c =
@@ -1249,9 +1277,9 @@ visit-keep-requires t c =
     let the-opened : (Opened given line c.args.work.now.now c.enter.new.work.now c.args.spot c.args.node) = entered_open _ _ _ _ _ c.requires.ready c.enter.ensures.says (ap code_in c.in_default.is) in
     let same : c.kept_answer.new.work.now ≡ c.enter.new.work.now = ap (λ r. r.now) c.kept_answer.ensures.1 in
     let the-ranged : (
-        Ends given line c.enter.new.work.now c.visit_range-done.new.work.now (c.args.spot - 1) c.visit_range-done.result
-            (λ l s. applies given line (left_in (c.args.spot - 1)) l c.args.node (pos_in (c.args.spot - 1)) s))
-      = let o = the-opened in
+    Ends given line c.enter.new.work.now c.visit_range-done.new.work.now (c.args.spot - 1) c.visit_range-done.result
+    (λ l s. applies given line (left_in (c.args.spot - 1)) l c.args.node (pos_in (c.args.spot - 1)) s))
+    = let o = the-opened in
     let there = c.pos_of-pos.ensures ∙ sym o.there in
     let range = rw there at c.visit_range-done.ensures.range in
     let reached = rw (there, same) at c.visit_range-done.ensures.reached in
@@ -1269,9 +1297,9 @@ visit-returns-then-kind_of-eq1-clause-says t c =
     let the-opened : (Opened given line c.args.work.now.now c.enter.new.work.now c.args.spot c.args.node) = entered_open _ _ _ _ _ c.requires.ready c.enter.ensures.says (ap code_in c.in_default.is) in
     let same : c.kept_answer.new.work.now ≡ c.enter.new.work.now = ap (λ r. r.now) c.kept_answer.ensures.1 in
     let the-ranged : (
-        Ends given line c.enter.new.work.now c.visit_range-done.new.work.now (c.args.spot - 1) c.visit_range-done.result
-            (λ l s. applies given line (left_in (c.args.spot - 1)) l c.args.node (pos_in (c.args.spot - 1)) s))
-      = let o = the-opened in
+    Ends given line c.enter.new.work.now c.visit_range-done.new.work.now (c.args.spot - 1) c.visit_range-done.result
+    (λ l s. applies given line (left_in (c.args.spot - 1)) l c.args.node (pos_in (c.args.spot - 1)) s))
+    = let o = the-opened in
     let there = c.pos_of-pos.ensures ∙ sym o.there in
     let range = rw there at c.visit_range-done.ensures.range in
     let reached = rw (there, same) at c.visit_range-done.ensures.reached in
@@ -1302,6 +1330,8 @@ visit-returns-clause-says t c =
     let the-opened : (Opened given line c.args.work.now.now c.enter.new.work.now c.args.spot c.args.node) = entered_open _ _ _ _ _ c.requires.ready c.enter.ensures.says (ap code_in c.in_default.is) in
     let same : c.kept_answer.new.work.now ≡ c.enter.new.work.now = ap (λ r. r.now) c.kept_answer.ensures.1 in
     opened _ _ _ _ _ c.requires.ready the-opened _ _ (rw same at c.apply.ensures.says)
+
+-- ---- visit_row: a repetition where nothing is kept.
 
 pub visit_row-loop-turn-init : goal.visit_row-loop-turn-init
 visit_row-loop-turn-init t c =
