@@ -186,7 +186,7 @@ module _ (t : List ℕ) where
   -- Where the roots are fine, the nodes decide.
   module _ (n r : ℕ) (en : n ≡ nodes_of t) (er : r ≡ rules_of t)
       (says : layout_of t ≡ first_fault (root_fault t) 0 (rules_of t) or_else first_fault (node_fault t) 0 (nodes_of t)) (roots : verdict READ 0 ≡ first_fault (root_fault t) 0 r) where
-    nodes_decide : layout_of t ≡ first_fault (node_fault t) 0 n
+    pub nodes_decide : layout_of t ≡ first_fault (node_fault t) 0 n
     nodes_decide = says ∙ rw (← er, ← roots, ← en) refl
 
     pub survey_nodes : (said : Result ℕ Refusal) → NodesSaid t n said → Surveyed t (survey_of said)

@@ -23,6 +23,11 @@ exit_status_of (Ok Done) = done
 exit_status_of (Ok Refused) = refused
 exit_status_of (Err failure) = failed
 
+-- The exit status after a part of the run that, where it doesn't fail, goes on to this one.
+abbrev pub status_after : (status : ℕ) → Result Unit Failure → ℕ
+status_after status (Ok _) = status
+status_after status (Err failure) = failed
+
 -- What a write gives, by whether it failed.
 abbrev pub written_unless : (fails : Bool) → Result Unit Failure
 written_unless fails = cond fails (Err Output) (Ok tt)

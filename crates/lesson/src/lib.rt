@@ -4,11 +4,11 @@
 mod lines;
 mod load;
 
-ghost use Rattle.std.specs.Prelude.{◌≡◌, ◌≤◌, Err};
+ghost use Rattle.std.specs.Prelude.{◌≡◌, ℕ, ◌≤◌, Err};
 ghost use Rattle.page.specs.Page.{has_failed, Puts};
 ghost use Rattle.sheet.specs.Check.{verdict_of};
 ghost use Rattle.lesson.specs.Texts.{grammar_text, verdict_text};
-ghost use Rattle.lesson.specs.Status.{refused, failed, exit_status_of, written_unless, Ends, status_of};
+ghost use Rattle.lesson.specs.Status.{refused, failed, exit_status_of, status_after, written_unless, Ends, status_of};
 
 use page::Page;
 use sheet::Refusal;
@@ -69,7 +69,9 @@ fn put_grammar(page: &mut Page)
     page.put_all(b"GRAMMAR\n");
 }
 
-fn print_grammar() -> Result<(), Failure> {
+fn print_grammar() -> Result<(), Failure>
+    ensures { (status : ℕ) → Ends status (status_after status result) }
+{
     let mut page = Page::blank();
     put_grammar(&mut page);
     print(&mut page)
@@ -102,7 +104,9 @@ fn read_by<R: Input>(rt: &R, table: &[u8]) -> Result<Status, Failure>
 }
 
 // A file that opens and can't be read, as a folder, prints what an unopened one does.
-fn fail_to_load() -> Failure {
+fn fail_to_load() -> Failure
+    ensures { exit_status_of (Err result) ≡ failed }
+{
     if let Err(failure) = print_grammar() {
         failure.tell();
     }

@@ -2,6 +2,7 @@
 ghost use Rattle.std.specs.Prelude.{[], ◌∷◌, ◌≤◌, length as count};
 ghost use Rattle.page.specs.Page.{Puts};
 ghost use Rattle.lesson.specs.Lines.{kept, last_text, Lengthened, Taken, TakenUnlessFailed};
+ghost use Rattle.lesson.specs.Status.{done, status_after, Ends};
 
 use crate::Failure;
 use answers::{Numbers, Room};
@@ -102,7 +103,9 @@ impl Lines {
         }
     }
 
-    fn answer_last(&mut self, table: &[u8]) -> Result<(), Failure> {
+    fn answer_last(&mut self, table: &[u8]) -> Result<(), Failure>
+        ensures { Ends done (status_after done result) }
+    {
         let mut page = Page::blank();
         self.put_last(table, &mut page);
         crate::print(&mut page)
@@ -110,7 +113,9 @@ impl Lines {
 }
 
 // Answers the lines of the input. Where a read fails, a line that was begun has no answer.
-pub(crate) fn read_lines<R: Input>(rt: &R, table: &[u8]) -> Result<(), Failure> {
+pub(crate) fn read_lines<R: Input>(rt: &R, table: &[u8]) -> Result<(), Failure>
+    ensures { Ends done (status_after done result) }
+{
     let mut input = rt.reader();
     let mut lines = Lines {
         begun: ArrayVec::new(),

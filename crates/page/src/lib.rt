@@ -11,7 +11,7 @@ const STDOUT: i32 = 1;
 const SIZE: usize = 4_096;
 
 // The bytes of text, how many of them, from the front, are used, and whether a write has failed. No vector: `Puts` says what stands past the used ones too.
-#[derive(Drop)]
+#[derive(Clone, Copy)]
 pub struct Page {
     bytes: [u8; SIZE],
     used: usize,

@@ -58,7 +58,7 @@ module _ (whole : Bool) (long : ℕ) (w : List ℕ) (v : Visited) (room : List �
 
   -- A result that neither stopped nor failed is a match, and its list is in order.
   module _ (runs : end ≢ STOPPED) (fits : end ≢ FAILED) where
-    matched : end < STOPPED
+    pub matched : end < STOPPED
     matched = let m = f.0.end_most in omega arith
 
     pub arena_of : Arena w list

@@ -3,7 +3,7 @@ use mathlib.Core.Path.{◌≡◌, refl, sym, ap, ◌∙◌}
 use mathlib.Core.List.{List, [], ◌∷◌, ◌++◌, append-nil, append_assoc}
 use Rattle.stored.specs.declared.Span as code
 use Rattle.stored.specs.declared.Record as code_record
-use Rattle.std.proofs.lemmas.List.{reverse-append, take-append-drop, length-reverse, length-map, length-drop, length-append}
+use Rattle.std.proofs.lemmas.List.{reverse-append, take-append-drop, take_all, length-reverse, length-map, length-drop, length-append}
 use mathlib.Core.Bool.{Bool, true, false, cond, ◌&&◌, and-false}
 use native.Mathlib.Omega.{arith}
 use native.Mathlib.Numerals.{add-one, sub-one}
@@ -50,6 +50,10 @@ module _ (spans : List code.Span) (start : ℕ) where
   take_begun n left end h e =
       let l : length (drop left spans) ≡ n = omega (arith, length-drop left spans) in
       rw (l, take-append-drop left spans)
+
+  pub take_no_children : (n end : ℕ) → n ≡ 0 → untaken (spans_of (take (length spans) spans)) ≡ takes n start end (spans_of spans)
+  unfolding takes
+  take_no_children n end h = rw (h, take_all (length spans) spans (omega arith))
 
   pub take_none : (n end : ℕ) → (n ≤ length spans → ⊥) → fault ≡ takes n start end (spans_of spans)
   take_none n end h = sym (takes_few n start end (spans_of spans) (omega (arith, length_spans spans)))

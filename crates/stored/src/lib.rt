@@ -16,7 +16,8 @@ ghost use Rattle.stored.specs.Stored.{in_bytes, record_size, record_bytes, store
 ghost use Rattle.stored.specs.WellFormed.{number_at, records_at, in_range, all_in_range, takes, goes, only_last, well_formed_of, is_well_formed};
 ghost use Rattle.stored.specs.Scratch.{spans_of, left_of, record_of, IsRecord, head_agrees};
 
-use arrayvec::ArrayVec;
+// No slice whose length stands in two bytes has more records.
+const MOST_SPANS: usize = 13106;
 
 // No longer line is read, and nothing is well formed for one.
 pub const LONGEST_LINE: usize = 4000;
@@ -162,7 +163,16 @@ fn take_children(spans: &[Span], parent: Record) -> Option<usize>
     ensures taken { left_of spans.now result ≡ takes parent.children parent.span.start parent.span.end (spans_of spans.now) }
     ensures within { MatchOption result Unit (λ left. left ≤ length spans.now) }
 {
-    let left = spans.len().checked_sub(usize::from(parent.children))?;
+    let children = usize::from(parent.children);
+    // Most records have none.
+    if children == 0 {
+        return Some(spans.len());
+    }
+    // No `checked_sub`: its Option is put together before it is tested.
+    if spans.len() < children {
+        return None;
+    }
+    let left = spans.len() - children;
     let mut bound = parent.span.end;
     for child in spans[left..].iter().rev() {
         if bound < child.end || child.start < parent.span.start {
@@ -175,25 +185,33 @@ fn take_children(spans: &[Span], parent: Record) -> Option<usize>
 
 // Goes through the records, from the first to the last, with the spans not yet taken, the newest last. They lie in the call itself, so nothing is
 // allocated.
-// The width is a number with its bounds, as in put_number.
-fn go_through(bytes: &[u8], width: usize, rules: u32, line_length: u32, records: usize) -> bool
-    requires room { (5 + record_size width * records ≤ length bytes.now) × (records ≤ 13106) }
-    requires widths { (0 < width) × (width ≤ 2) }
-    ensures { result ≡ (all_in_range rules line_length (records_at width bytes.now 5 records) && only_last (goes (records_at width bytes.now 5 records) [])) }
+// An array with its count beside it, and no ArrayVec: by `truncate`, which the library does by a call that blanks what was taken, 1,000 records took 1.7 to 2.6
+// times as long; by `pop` for each child, since its count lies in memory, 1.1 to 1.4 times (docs/SPEED.md).
+// The width is a constant of the code, so that it is not asked for at each number of each record.
+fn go_through<const WIDTH: usize>(
+    bytes: &[u8],
+    rules: u32,
+    line_length: u32,
+    records: usize,
+) -> bool
+    requires room { (5 + record_size WIDTH * records ≤ length bytes.now) × (records ≤ 13106) }
+    requires widths { (0 < WIDTH) × (WIDTH ≤ 2) }
+    ensures { result ≡ (all_in_range rules line_length (records_at WIDTH bytes.now 5 records) && only_last (goes (records_at WIDTH bytes.now 5 records) [])) }
 {
-    let mut spans: ArrayVec<Span, 13106> = ArrayVec::new();
+    let mut spans = [Span::default(); MOST_SPANS];
+    let mut untaken = 0;
     for k in 0..records {
-        let record = record_at(bytes, 5 + record_size(width) * k, width);
+        let record = record_at(bytes, 5 + record_size(WIDTH) * k, WIDTH);
         if !record.in_range(rules, line_length) {
             return false;
         }
-        let Some(left) = take_children(spans.as_slice(), record) else {
+        let Some(left) = take_children(&spans[..untaken], record) else {
             return false;
         };
-        spans.truncate(left);
-        spans.push(record.span);
+        spans[left] = record.span;
+        untaken = left + 1;
     }
-    spans.len() == 1
+    untaken == 1
 }
 
 // Whether the head has this version, and the length and the record count that the slice has.
@@ -220,7 +238,11 @@ fn well_formed_by(bytes: &[u8], width: usize, rules: u32, line_length: u32) -> b
         return false;
     }
     let records = usize::from(number_at(bytes, 3, 2));
-    go_through(bytes, width, rules, line_length, records)
+    if width == 1 {
+        go_through::<1>(bytes, rules, line_length, records)
+    } else {
+        go_through::<2>(bytes, rules, line_length, records)
+    }
 }
 
 // Whether a stored reading is well formed for so many rules and a line of so many bytes: each version only for its lines.

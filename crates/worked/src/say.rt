@@ -131,16 +131,36 @@ fn stored_length(line: &[u8], answer: Result<Reading, Refusal>) -> usize {
     }
 }
 
-pub(crate) fn reading(name: &str, numbers: &[u64], sheet: &Sheet, line: &[u8], asked: Asked) {
-    let mut work = [7; LARGE];
-    let mut room = [7; LARGE_ROOM];
-    let answer = read(sheet.bytes(), line, asked, &mut work, &mut room);
+// The same, and what is said of it.
+fn say_reading(
+    name: &str,
+    numbers: &[u64],
+    sheet: &Sheet,
+    line: &[u8],
+    asked: Asked,
+    work: &mut [u32],
+    room: &mut [u8],
+) {
+    let answer = read(sheet.bytes(), line, asked, work, room);
     say(
         name,
         numbers,
         &reader::numbers(answer),
-        page::front(&room, stored_length(line, answer)),
+        page::front(room, stored_length(line, answer)),
     );
+}
+
+// Lends from the usual arrays as long as they are long enough: those for the rest are filled at each call too, and are 25 times as long.
+pub(crate) fn reading(name: &str, numbers: &[u64], sheet: &Sheet, line: &[u8], asked: Asked) {
+    if asked.numbers <= NUMBERS && asked.room <= ROOM {
+        let mut work = [7; NUMBERS];
+        let mut room = [7; ROOM];
+        say_reading(name, numbers, sheet, line, asked, &mut work, &mut room);
+    } else {
+        let mut work = [7; LARGE];
+        let mut room = [7; LARGE_ROOM];
+        say_reading(name, numbers, sheet, line, asked, &mut work, &mut room);
+    }
 }
 
 // A prefix reading and a whole-line reading with the usual lendings. Both names stay: a value that names one of them is no

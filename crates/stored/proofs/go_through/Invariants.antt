@@ -1,7 +1,7 @@
 -- `go_through` judges the records. The loop: what is left to go through, with the spans not yet taken, gives the judgement of all.
 use mathlib.Core.Path.{◌≡◌}
 use mathlib.Core.List.{[]}
-use lib.ListN.{length}
+use lib.ListN.{length, take}
 use Prim.Native.Nat.{◌≤◌, ◌+◌, ◌-◌, ◌*◌}
 use Rattle.stored.specs.Stored.{record_size}
 use Rattle.stored.specs.WellFormed.{records_at}
@@ -10,6 +10,7 @@ use Rattle.stored.proofs.Goes.{rest}
 use Rattle.stored.proofs.go_through.Given as goal
 
 abbrev pub invariant-loop-k : goal.invariant-loop-k
-invariant-loop-k l =
-    (length l.spans.items ≤ l.k)
-    × (rest l.rules l.line_length (records_at l.width l.bytes (5 + record_size l.width * l.k) (l.records - l.k)) (spans_of l.spans.items) ≡ rest l.rules l.line_length (records_at l.width l.bytes 5 l.records) [])
+invariant-loop-k g l =
+    (l.untaken ≤ l.k)
+    × (length l.spans ≡ 13106)
+    × (rest l.rules l.line_length (records_at g.row.WIDTH l.bytes (5 + record_size g.row.WIDTH * l.k) (l.records - l.k)) (spans_of (take l.untaken l.spans)) ≡ rest l.rules l.line_length (records_at g.row.WIDTH l.bytes 5 l.records) [])
