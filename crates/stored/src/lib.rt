@@ -164,11 +164,11 @@ fn take_children(spans: &[Span], parent: Record) -> Option<usize>
     ensures within { MatchOption result Unit (λ left. left ≤ length spans.now) }
 {
     let children = usize::from(parent.children);
-    // Most records have none.
+    // As many records have none: the loop is not begun for them.
     if children == 0 {
         return Some(spans.len());
     }
-    // No `checked_sub`: its Option is put together before it is tested.
+    // No `checked_sub`: with it a record that has children takes longer (docs/SPEED.md).
     if spans.len() < children {
         return None;
     }
@@ -185,8 +185,8 @@ fn take_children(spans: &[Span], parent: Record) -> Option<usize>
 
 // Goes through the records, from the first to the last, with the spans not yet taken, the newest last. They lie in the call itself, so nothing is
 // allocated.
-// An array with its count beside it, and no ArrayVec: by `truncate`, which the library does by a call that blanks what was taken, 1,000 records took 1.7 to 2.6
-// times as long; by `pop` for each child, since its count lies in memory, 1.1 to 1.4 times (docs/SPEED.md).
+// An array with its count beside it. In an ArrayVec the count lies in memory with the elements: with `truncate`, a call of the library that blanks what was taken,
+// 1,000 records took 1.7 to 2.6 times as long, with `pop` for each child, or in a struct of our own, 1.1 to 1.4 times (docs/SPEED.md).
 // The width is a constant of the code, so that it is not asked for at each number of each record.
 fn go_through<const WIDTH: usize>(
     bytes: &[u8],
