@@ -185,8 +185,8 @@ fn take_children(spans: &[Span], parent: Record) -> Option<usize>
 
 // Goes through the records, from the first to the last, with the spans not yet taken, the newest last. They lie in the call itself, so nothing is
 // allocated.
-// An array with its count beside it. In an ArrayVec the count lies in memory with the elements: with `truncate`, a call of the library that blanks what was taken,
-// 1,000 records took 1.7 to 2.6 times as long, with `pop` for each child, or in a struct of our own, 1.1 to 1.4 times (docs/SPEED.md).
+// An array with its count beside it. In an ArrayVec with `truncate`, a call of the library that blanks what was taken, 1,000 records took 1.7 to 2.6 times as long,
+// with `pop` for each child, or with the count in a struct of our own, 1.1 to 1.4 times (docs/SPEED.md).
 // The width is a constant of the code, so that it is not asked for at each number of each record.
 fn go_through<const WIDTH: usize>(
     bytes: &[u8],

@@ -150,7 +150,7 @@ fn say_reading(
     );
 }
 
-// Lends from the usual arrays as long as they are long enough: those for the rest are filled at each call too, and are 25 times as long.
+// Lends from the usual arrays as long as they are long enough: those for the rest are filled at each call too, and have 25 times as many working numbers.
 pub(crate) fn reading(name: &str, numbers: &[u64], sheet: &Sheet, line: &[u8], asked: Asked) {
     if asked.numbers <= NUMBERS && asked.room <= ROOM {
         let mut work = [7; NUMBERS];
